@@ -7,11 +7,12 @@
 enum { LONGEST_WAIT = 30 };
 #define CLIENT_FLAGS (G_DBUS_CONNECTION_FLAGS_AUTHENTICATION_CLIENT | G_DBUS_CONNECTION_FLAGS_MESSAGE_BUS_CONNECTION)
 
-const interface interfaces[] = {
-    {"Accessible", accessible_members}, {"Application", application_members}, {"Component", component_members}, {"Text", text_members},
-    {"Action", action_members}, {"Value", value_members}, {"Selection", selection_members}, {"Hyperlink", hyperlink_members},
-    {"Hypertext", hypertext_members}, {"Collection", collection_members}, {"Table", table_members}, {"TableCell", cell_members},
-    {NULL, NULL}};
+const interface interfaces[] = {{SPI "Accessible", accessible_members, is_object}, {SPI "Application", application_members, is_own},
+                                {SPI "Component", component_members, has_box}, {SPI "Text", text_members, has_any_text},
+                                {SPI "Action", action_members, has_actions}, {SPI "Value", value_members, has_number},
+                                {SPI "Selection", selection_members, has_items}, {SPI "Hyperlink", hyperlink_members, is_linked},
+                                {SPI "Hypertext", hypertext_members, has_marks}, {SPI "Collection", collection_members, is_there},
+                                {SPI "Table", table_members, is_table}, {SPI "TableCell", cell_members, is_cell}, {NULL, NULL, NULL}};
 
 /* ---- Requests */
 
@@ -37,40 +38,52 @@ GVariant *ask_application(request *r, ak_atspi_action action) {
     return g_variant_new_boolean(TRUE);
 }
 
-static const interface *interface_named(const char *name) {
-    if (!g_str_has_prefix(name, SPI)) return NULL;
-    for (const interface *it = interfaces; it->name; it++)
-        if (strcmp(name + strlen(SPI), it->name) == 0) return it;
+static const interface properties;
+
+/* The interface with this name, if the object has it. */
+static const interface *interface_named(request *r, const char *name) {
+    const interface *it = interfaces;
+    if (strcmp(name, properties.name) == 0) return &properties;
+    while (it->name && strcmp(it->name, name) != 0) it++;
+    if (it->is_of == has_any_text || it->is_of == has_marks) r->marks = mark_count(r->now, r->id);
+    if (it->name && it->is_of(r->now, r->id)) return it;
+    fail(r, "UnknownInterface", "the object has no such interface");
     return NULL;
 }
 
-/* The interface with this name, if the object can have it. What depends on the node says so itself, and a text is one only of nodes
- * that have one. */
-static const interface *interface_for(request *r, const char *name) {
-    const interface *it = interface_named(name);
-    const method *members = it ? it->members : NULL;
-    bool is_of_application = members == application_members, has_text_too = members == text_members || members == hypertext_members;
-    bool can_be = members && (r->is_application ? is_of_application || members == accessible_members : !is_of_application);
-    if (can_be && has_text_too) r->marks = mark_count(r->now, r->id);
-    if (can_be && members == text_members) can_be = r->marks > 0 || has_text(r->now, r->id);
-    if (!can_be) fail(r, "UnknownInterface", "the object has no such interface");
-    return can_be ? it : NULL;
-}
-
-/* The member with this name that is a method, or else a property that is read or set. */
-enum kind { METHOD, READ, SET };
-
-static const method *member_named(const interface *of, const char *name, enum kind kind) {
-    for (const method *it = of->members; it->name; it++) {
-        enum kind is = !it->takes ? READ : it->takes[0] == '=' ? SET : METHOD;
-        if (is == kind && strcmp(it->name, name) == 0) return it;
-    }
+static const method *member_named(request *r, const char *interface_name, const char *name, bool is_property) {
+    const interface *of = interface_named(r, interface_name);
+    for (const method *it = of ? of->members : NULL; it && it->name; it++)
+        if (!it->takes == is_property && strcmp(it->name, name) == 0) return it;
+    if (of) fail(r, is_property || *name == '=' ? "UnknownProperty" : "UnknownMethod", "%s has no %s", interface_name, name);
     return NULL;
 }
 
-static GVariant *answer_get_all(request *r, const interface *of) {
-    GVariantBuilder b;
-    g_variant_builder_init(&b, G_VARIANT_TYPE("a{sv}"));
+static GVariant *get_property(request *r) {
+    const char *of, *name;
+    g_variant_get(r->given, "(&s&s)", &of, &name);
+    const method *found = member_named(r, of, name, true);
+    GVariant *answer = found ? found->answer(r) : NULL;
+    return answer ? g_variant_new("(v)", answer) : NULL;
+}
+
+static GVariant *set_property(request *r) {
+    const char *of, *name;
+    g_autoptr(GVariant) value = NULL;
+    g_variant_get(r->given, "(&s&sv)", &of, &name, &value);
+    g_autofree char *setter = g_strconcat("=", name, NULL);
+    const method *found = member_named(r, of, setter, false);
+    if (!found) return NULL;
+    if (!g_variant_is_of_type(value, G_VARIANT_TYPE(found->takes)))
+        return fail(r, "InvalidArgs", "%s takes a value of the type %s", name, found->takes);
+    r->given = value;
+    return found->answer(r);
+}
+
+static GVariant *get_all_properties(request *r) {
+    const interface *of = interface_named(r, r->word);
+    if (!of) return NULL;
+    GVariantBuilder b = G_VARIANT_BUILDER_INIT(G_VARIANT_TYPE("a{sv}"));
     for (const method *it = of->members; it->name; it++) {
         GVariant *value = it->takes ? NULL : it->answer(r);
         if (value) g_variant_builder_add(&b, "{sv}", it->name, value);
@@ -78,27 +91,9 @@ static GVariant *answer_get_all(request *r, const interface *of) {
     return g_variant_new("(a{sv})", &b);
 }
 
-static GVariant *answer_property(request *r, const interface *of, const char *name, GVariant *value) {
-    const method *found = member_named(of, name, value ? SET : READ);
-    if (!found) return fail(r, "UnknownProperty", "the interface has no such property");
-    if (value && !g_variant_is_of_type(value, G_VARIANT_TYPE(found->takes + 1)))
-        return fail(r, "InvalidArgs", "%s takes a value of the type %s", name, found->takes + 1);
-    if (value) r->given = value;
-    GVariant *answer = found->answer(r);
-    return answer && !value ? g_variant_new("(v)", answer) : answer;
-}
-
-static GVariant *answer_properties(request *r, const char *member, const char *signature) {
-    const char *name = NULL, *property = NULL;
-    g_autoptr(GVariant) value = NULL;
-    if (strcmp(member, "Get") == 0 && strcmp(signature, "ss") == 0) g_variant_get(r->given, "(&s&s)", &name, &property);
-    else if (strcmp(member, "GetAll") == 0 && strcmp(signature, "s") == 0) g_variant_get(r->given, "(&s)", &name);
-    else if (strcmp(member, "Set") == 0 && strcmp(signature, "ssv") == 0) g_variant_get(r->given, "(&s&sv)", &name, &property, &value);
-    else return fail(r, "InvalidArgs", "Properties has Get(ss), GetAll(s) and Set(ssv)");
-    const interface *of = interface_for(r, name);
-    if (!of) return NULL;
-    return property ? answer_property(r, of, property, value) : answer_get_all(r, of);
-}
+static const method property_members[] = {{"Get", "ss", "*v", get_property}, {"Set", "ssv", "*", set_property},
+                                          {"GetAll", "s", "*a{sv}", get_all_properties}, END};
+static const interface properties = {PROPERTIES, property_members, is_object};
 
 /* Reads what is given: the numbers in order, and a text. What is of other types stays in `given`. */
 static void read_given(request *r, const char *types) {
@@ -107,28 +102,22 @@ static void read_given(request *r, const char *types) {
         g_autoptr(GVariant) value = g_variant_get_child_value(r->given, i);
         if (types[i] == 's') g_variant_get_child(r->given, i, "&s", &r->word);
         else if (types[i] == 'b') r->numbers[count++] = g_variant_get_boolean(value);
-        else r->numbers[count++] = types[i] == 'u' ? (int64_t)g_variant_get_uint32(value) : g_variant_get_int32(value);
+        else if (types[i] == 'u') r->numbers[count++] = g_variant_get_uint32(value);
+        else if (types[i] == 'i') r->numbers[count++] = g_variant_get_int32(value);
     }
 }
 
-static GVariant *answer_method(request *r, GDBusMessage *message, const char *signature) {
-    const char *member = g_dbus_message_get_member(message), *name = g_dbus_message_get_interface(message);
-    if (strcmp(name, PROPERTIES) == 0) return answer_properties(r, member, signature);
-    const interface *of = interface_for(r, name);
-    if (!of) return NULL;
-    const method *found = member_named(of, member, METHOD);
-    if (!found) return fail(r, "UnknownMethod", "the interface has no such method");
+static GVariant *answer_now(request *r, GDBusMessage *message) {
+    const char *member = g_dbus_message_get_member(message), *signature = g_dbus_message_get_signature(message);
+    r->id = id_of_path(g_dbus_message_get_path(message));
+    if (!is_object(r->now, r->id)) return fail(r, "UnknownObject", "there is no such node, or it is gone");
+    const method *found = member_named(r, g_dbus_message_get_interface(message), member, false);
+    if (!found) return NULL;
     if (strcmp(found->takes, signature) != 0)
         return fail(r, "InvalidArgs", "%s takes (%s), and was given (%s)", member, found->takes, signature);
     read_given(r, signature);
     GVariant *answer = found->answer(r);
     return answer && found->gives[0] != '*' ? g_variant_new_tuple(&answer, 1) : answer;
-}
-
-static GVariant *answer_now(request *r, GDBusMessage *message) {
-    bool is_node = id_of_path(g_dbus_message_get_path(message), &r->id, &r->is_application);
-    if (is_node && (r->is_application || is_there(r->now, r->id))) return answer_method(r, message, g_dbus_message_get_signature(message));
-    return fail(r, "UnknownObject", "there is no such node, or it is gone");
 }
 
 static void send_reply(request *r, GVariant *answer, GDBusConnection *bus, GDBusMessage *message) {
@@ -163,24 +152,10 @@ static bool answer_message(ak_atspi *adapter, GDBusConnection *bus, GDBusMessage
     return true;
 }
 
-/* A message that the adapter's thread answers. */
-typedef struct {
-    ak_atspi *adapter;
-    GDBusConnection *bus;
-    GDBusMessage *message;
-} arrival;
-
-static gboolean answer_arrival(gpointer data) {
-    arrival *it = data;
-    answer_message(it->adapter, it->bus, it->message, true);
+/* A message that the adapter's thread answers, with what it belongs to. */
+static gboolean answer_later(gpointer message) {
+    answer_message(g_object_get_data(message, "adapter"), g_object_get_data(message, "bus"), message, true);
     return G_SOURCE_REMOVE;
-}
-
-static void free_arrival(gpointer data) {
-    arrival *it = data;
-    g_object_unref(it->bus);
-    g_object_unref(it->message);
-    g_free(it);
 }
 
 /* On GDBus's own thread, which mustn't wait: what can't be answered at once, or is asked of the application, goes to the adapter's. */
@@ -190,21 +165,23 @@ static GDBusMessage *sort_out(GDBusConnection *bus, GDBusMessage *message, gbool
     const char *path = g_dbus_message_get_path(message), *interface = g_dbus_message_get_interface(message);
     bool is_ours = interface && (g_str_has_prefix(interface, SPI) || strcmp(interface, PROPERTIES) == 0);
     if (!path || !g_str_has_prefix(path, ALL_PATHS) || !is_ours) return message;
-    arrival it = {adapter, g_object_ref(bus), message};
-    if (answer_message(adapter, bus, message, false)) free_arrival(g_memdup2(&it, sizeof it));
-    else g_main_context_invoke_full(adapter->context, G_PRIORITY_DEFAULT, answer_arrival, g_memdup2(&it, sizeof it), free_arrival);
+    if (answer_message(adapter, bus, message, false)) {
+        g_object_unref(message);
+        return NULL;
+    }
+    g_object_set_data(G_OBJECT(message), "adapter", adapter);
+    g_object_set_data_full(G_OBJECT(message), "bus", g_object_ref(bus), g_object_unref);
+    g_main_context_invoke_full(adapter->context, G_PRIORITY_DEFAULT, answer_later, message, g_object_unref);
     return NULL;
 }
 
 /* ---- Signals */
 
 /* Notes a signal of a node, or of the application; it is sent once the update is carried out. */
-void emit(ak_atspi *adapter, const ak_id *id, const char *interface, const char *member, const char *kind, int first, int second,
-          GVariant *value) {
-    char path[PATH_ROOM] = ROOT_PATH;
-    if (id) path_of(adapter, *id, path);
-    char of[48];
-    g_snprintf(of, sizeof of, SPI "Event.%s", interface);
+void emit(ak_atspi *adapter, ak_id id, const char *group, const char *member, const char *kind, int first, int second, GVariant *value) {
+    char path[PATH_ROOM], of[48];
+    path_of(adapter, id, path);
+    g_snprintf(of, sizeof of, SPI "Event.%s", group);
     GDBusMessage *message = g_dbus_message_new_signal(path, of, member);
     g_dbus_message_set_body(message, g_variant_new("(siiva{sv})", kind, first, second, value ? value : g_variant_new_int32(0), NULL));
     g_ptr_array_add(adapter->signals, message);
@@ -212,22 +189,19 @@ void emit(ak_atspi *adapter, const ak_id *id, const char *interface, const char 
 
 /* Hands what was noted to GDBus, which doesn't wait for the bus. */
 void send_signals(ak_atspi *adapter) {
-    if (adapter->bus && adapter->is_embedded) {
-        for (guint i = 0; i < adapter->signals->len; i++)
-            g_dbus_connection_send_message(adapter->bus, adapter->signals->pdata[i], G_DBUS_SEND_MESSAGE_FLAGS_NONE, NULL, NULL);
-        adapter->signal_count += adapter->signals->len;
-    }
+    guint count = adapter->bus && adapter->is_embedded ? adapter->signals->len : 0;
+    for (guint i = 0; i < count; i++)
+        g_dbus_connection_send_message(adapter->bus, adapter->signals->pdata[i], G_DBUS_SEND_MESSAGE_FLAGS_NONE, NULL, NULL);
+    adapter->signal_count += count;
     g_ptr_array_set_size(adapter->signals, 0);
 }
 
 void ak_atspi_key(ak_atspi *adapter, const char *name, uint32_t keysym, uint32_t code, uint32_t modifiers, bool is_pressed) {
-    g_mutex_lock(&adapter->lock);
-    g_autoptr(GDBusConnection) bus = adapter->bus ? g_object_ref(adapter->bus) : NULL;
-    g_mutex_unlock(&adapter->lock);
-    if (!bus) return;
+    LOCKED(adapter);
+    if (!adapter->bus) return;
     GVariant *event = g_variant_new("((uiiiisb))", is_pressed ? 0 : 1, (int32_t)keysym, (int32_t)code, (int32_t)modifiers,
                                     (int32_t)(g_get_monotonic_time() / 1000 & G_MAXINT32), name, g_utf8_strlen(name, -1) == 1);
-    g_dbus_connection_call(bus, REGISTRY, "/org/a11y/atspi/registry/deviceeventcontroller", SPI "DeviceEventController",
+    g_dbus_connection_call(adapter->bus, REGISTRY, "/org/a11y/atspi/registry/deviceeventcontroller", SPI "DeviceEventController",
                            "NotifyListenersAsync", event, NULL, G_DBUS_CALL_FLAGS_NONE, -1, NULL, NULL, NULL);
 }
 
@@ -258,8 +232,7 @@ static void later(ak_atspi *adapter, GSourceFunc what) {
 
 static void leave_bus(ak_atspi *adapter) {
     g_mutex_lock(&adapter->lock);
-    GDBusConnection *bus = adapter->bus;
-    adapter->bus = NULL;
+    GDBusConnection *bus = g_steal_pointer(&adapter->bus);
     adapter->is_embedded = false;
     g_mutex_unlock(&adapter->lock);
     if (!bus) return;
@@ -277,7 +250,7 @@ static void bus_closed(GDBusConnection *bus, gboolean was_vanished, GError *erro
     later(adapter, look_for_bus);
 }
 
-static gboolean embed_again(gpointer data);
+static gboolean embed(gpointer data);
 
 static void embedded(GObject *source, GAsyncResult *result, gpointer data) {
     ak_atspi *adapter = data;
@@ -286,7 +259,7 @@ static void embedded(GObject *source, GAsyncResult *result, gpointer data) {
     adapter->is_embedding = false;
     if (!answer) {
         report_trouble(adapter, "the accessibility registry doesn't take this application", error);
-        if (adapter->bus) later(adapter, embed_again);
+        if (adapter->bus) later(adapter, embed);
         return;
     }
     g_mutex_lock(&adapter->lock);
@@ -300,15 +273,12 @@ static void embedded(GObject *source, GAsyncResult *result, gpointer data) {
     adapter->wait = 1;
 }
 
-static void embed(ak_atspi *adapter) {
-    if (!adapter->bus || adapter->is_embedding) return;
+static gboolean embed(gpointer data) {
+    ak_atspi *adapter = data;
+    if (!adapter->bus || adapter->is_embedding) return G_SOURCE_REMOVE;
     adapter->is_embedding = true;
     g_dbus_connection_call(adapter->bus, REGISTRY, ROOT_PATH, SPI "Socket", "Embed", g_variant_new("((so))", adapter->own, ROOT_PATH),
                            G_VARIANT_TYPE("((so))"), G_DBUS_CALL_FLAGS_NONE, -1, NULL, embedded, adapter);
-}
-
-static gboolean embed_again(gpointer data) {
-    embed(data);
     return G_SOURCE_REMOVE;
 }
 

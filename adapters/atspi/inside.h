@@ -40,35 +40,38 @@ struct ak_atspi {
 /* Holds the lock to the end of a block. */
 #define LOCKED(adapter) G_GNUC_UNUSED g_autoptr(GMutexLocker) locker = g_mutex_locker_new(&(adapter)->lock)
 
-/* A request of a client: of which object, and what it answers. The application itself is an object that is no node. */
+/* A request of a client: of which object, and what it answers. */
 enum { MOST_NUMBERS = 3 };
 typedef struct {
     ak_atspi *adapter;
     const view *now;
-    bool is_application;
-    ak_id id;
+    ak_id id; /* a node, or APPLICATION */
     GVariant *given; /* a tuple, or the value that a property gets */
     int64_t numbers[MOST_NUMBERS]; /* of what is given: the numbers, in order, and the last text */
     const char *word;
-    size_t marks;      /* of how many marks the node's text is, if it is of marks */
+    size_t marks;      /* of a text: of how many marks it is, if it is of marks */
     const char *error; /* the name of an error, if it isn't answered */
     char *message;
     bool is_asked; /* the application is asked for `asked`, once the lock is free, and the answer is whether it will try */
     ak_atspi_request asked;
 } request;
 
+typedef bool is_node(const view *v, ak_id id);
 /* Answers a request, or gives NULL and names an error. */
 typedef GVariant *(*answerer)(request *r);
+/* A member of an interface: a method with what it takes, or a property, which takes NULL. What sets a property has `=` before its name.
+ * An answer of several values has `*` before their types. The last member has no name. */
 typedef struct {
     const char *name, *takes, *gives;
     answerer answer;
 } method;
-/* The members of an interface: methods with what they take, and properties, which take NULL. The last one has no name. */
+#define END {NULL, NULL, NULL, NULL}
+/* An interface, and which objects have it. */
 typedef struct {
     const char *name;
     const method *members;
+    is_node *is_of;
 } interface;
-#define END {NULL, NULL, NULL, NULL}
 /* What a signal tells of a node where the answer, or another one, differs. */
 typedef struct {
     const char *member, *kind;
@@ -79,19 +82,13 @@ extern const interface interfaces[];
 extern const method accessible_members[], application_members[], component_members[], action_members[], value_members[], text_members[],
     selection_members[], hyperlink_members[], hypertext_members[], collection_members[], table_members[], cell_members[];
 
-/* An answer that is one expression. */
-#define ANSWERS(name, answer)           \
-    static GVariant *name(request *r) { \
-        (void)r;                        \
-        return answer;                  \
-    }
-/* An answer that is the text `t` if that is read, or else empty. */
-#define ANSWERS_TEXT(name, is_read)                                 \
-    static GVariant *name(request *r) {                             \
-        g_autoptr(GString) t = new_text();                          \
-        return g_variant_new_string((is_read) ? t->str : "");       \
-    }
+/* An answer that is one expression, one that is the text `t` if that is read, or else empty, and what a node is. */
+#define ANSWERS(name, answer) static GVariant *name(request *r) { return (void)r, (answer); }
+#define ANSWERS_TEXT(name, is_read) \
+    static GVariant *name(request *r) { g_autoptr(GString) t = new_text(); return g_variant_new_string((is_read) ? t->str : ""); }
+#define TELLS(name, expression) bool name(const view *v, ak_id id) { return (void)v, (void)id, (expression); }
 #define FALSE_ANSWER g_variant_new_boolean(FALSE)
+#define INT_ANSWER(number) g_variant_new_int32((int32_t)(number))
 GVariant *fail(request *r, const char *name, const char *message, ...) G_GNUC_PRINTF(3, 4);
 GVariant *ask_application(request *r, ak_atspi_action action);
 
@@ -105,44 +102,46 @@ bool text_grows(GString *t);
 /* A list of nodes is an array of ak_id. */
 #define AT(list, i) g_array_index(list, ak_id, i)
 enum { SHOWN_CHILDREN = -1, ALL_CHILDREN = -2 };
+GArray *new_ids(void);
 GArray *read_ids(const view *v, ak_id id, int which);
 
-typedef bool is_node(const view *v, ak_id id);
-is_node is_there, is_shown, is_application, is_of_page, is_selected, hides_text, has_text, is_table, is_cell;
-typedef bool reads_text(const view *v, ak_id id, GString *t);
-reads_text read_name, read_description, read_text;
+is_node is_there, is_shown, is_application, is_of_page, is_selected, is_text_role, hides_text, has_text;
+/* Which objects have an interface. */
+is_node is_object, is_own, has_box, has_actions, has_number, is_linked, has_items, has_any_text, has_marks, is_table, is_cell;
+bool read_name(const view *v, ak_id id, GString *t);
+bool read_text(const view *v, ak_id id, GString *t);
+bool is_some(ak_id id);
 bool is_same(ak_id one, ak_id other);
 bool has_flag(const view *v, ak_id id, ak_flag flag);
-bool shown_parent(const view *v, ak_id id, ak_id *parent);
-int shown_index(const view *v, ak_id id);
+uint32_t state_value(const view *v, ak_id id, ak_state state, uint32_t otherwise);
+size_t count_of(const view *v, ak_id id, ak_count which);
+ak_id shown_parent(const view *v, ak_id id);
 GArray *read_windows(const view *v);
-bool active_window(const view *v, ak_id *window);
+ak_id active_window(const view *v);
 uint32_t number_of_role(const view *v, ak_id id);
 unsigned role_of(const view *v, ak_id id);
 uint64_t states_of(const view *v, ak_id id);
-bool read_number(const view *v, ak_id id, ak_field field, double *number);
 void hide_password(const view *v, ak_id id, GString *t);
 GVariant *attributes_of(const view *v, ak_id id);
-bool child_at(request *r, int64_t index, ak_id *child);
+ak_id child_at(request *r, int64_t index);
 
 typedef struct {
     int x, y, width, height;
 } box;
-box box_of(ak_atspi *adapter, const ak_bounds *bounds);
+ak_bounds bounds_of(const view *v, ak_id id);
+box box_of(ak_atspi *adapter, ak_bounds bounds);
 box extents(ak_atspi *adapter, const view *v, ak_id id);
 GVariant *box_answer(request *r, box it, uint32_t coordinates);
 bool own_point(request *r, ak_point *own);
-GVariant *reference(ak_atspi *adapter, const ak_id *id);
-GVariant *references(ak_atspi *adapter, const GArray *list);
+GVariant *reference(ak_atspi *adapter, ak_id id);
+/* These two take their list. */
+GVariant *references(ak_atspi *adapter, GArray *list);
+GVariant *count_answer(GArray *list);
 void path_of(ak_atspi *adapter, ak_id id, char *path);
-bool id_of_path(const char *path, ak_id *id, bool *is_application);
+ak_id id_of_path(const char *path);
 
-/* ---- What is read of several nodes (sets.c, tables.c) */
-bool has_interface(const view *v, ak_id id, const method *members);
-GVariant *interfaces_of(request *r);
-bool cell_index(const view *v, ak_id id, size_t *index);
-
-/* ---- Texts (texts.c) */
+/* ---- What is read of several nodes (tables.c), and texts (texts.c) */
+int64_t cell_index(const view *v, ak_id id);
 int caret_of(const view *v, ak_id id);
 bool selection_of(const view *v, ak_id id, int *start, int *end);
 size_t mark_count(const view *v, ak_id id);
@@ -150,7 +149,6 @@ GVariant *marks(size_t count);
 
 /* ---- Events (events.c), which are sent by bus.c */
 void tell_changes(void *adapter, const view *before, const view *now);
-void emit(ak_atspi *adapter, const ak_id *id, const char *interface, const char *member, const char *kind, int first, int second,
-          GVariant *value);
+void emit(ak_atspi *adapter, ak_id id, const char *group, const char *member, const char *kind, int first, int second, GVariant *value);
 void send_signals(ak_atspi *adapter);
 #endif

@@ -4,9 +4,9 @@
 #include "accesskit_proved.h"
 #include <stdint.h>
 
-enum { ROLE_COLUMN_HEADER = 10, ROLE_FRAME = 23, ROLE_LABEL = 29, ROLE_ROW_HEADER = 47, ROLE_TABLE = 55, ROLE_TABLE_CELL = 56,
-       ROLE_TOGGLE_BUTTON = 62, ROLE_TREE_TABLE = 66, ROLE_UNKNOWN = 67, ROLE_APPLICATION = 75, ROLE_ENTRY = 79,
-       ROLE_TABLE_ROW = 90, ROLE_COUNT = 130 };
+enum { ROLE_COLUMN_HEADER = 10, ROLE_FILLER = 20, ROLE_FRAME = 23, ROLE_LABEL = 29, ROLE_MENU = 33, ROLE_PANEL = 39, ROLE_ROW_HEADER = 47,
+       ROLE_TABLE = 55, ROLE_TABLE_CELL = 56, ROLE_TOGGLE_BUTTON = 62, ROLE_TREE_TABLE = 66, ROLE_UNKNOWN = 67, ROLE_APPLICATION = 75,
+       ROLE_ENTRY = 79, ROLE_TABLE_ROW = 90, ROLE_COUNT = 130 };
 /* States, by their bits. */
 enum { STATE_ACTIVE = 1, STATE_BUSY = 3, STATE_CHECKED = 4, STATE_DEFUNCT = 6, STATE_EDITABLE = 7, STATE_ENABLED = 8, STATE_EXPANDABLE = 9,
        STATE_EXPANDED = 10, STATE_FOCUSABLE = 11, STATE_FOCUSED = 12, STATE_HORIZONTAL = 14, STATE_MODAL = 16, STATE_MULTI_LINE = 17,
@@ -22,11 +22,8 @@ enum { COORDINATES_SCREEN = 0, COORDINATES_WINDOW = 1, COORDINATES_PARENT = 2 };
 
 /* The role of AT-SPI for a role of the tree, ROLE_UNKNOWN if there is none. */
 unsigned atspi_role(uint32_t role);
-/* The name of a role or a state of AT-SPI. */
-const char *atspi_role_name(unsigned role);
-const char *atspi_state_name(unsigned state);
+/* The names of the roles and states of AT-SPI. */
+extern const char *const role_names[ROLE_COUNT], *const state_names[STATE_COUNT];
 /* What ARIA calls a role that screen readers look for by that name, as those of landmarks, or NULL. */
 const char *aria_role(uint32_t role);
-/* The words for the values of fields that have few: `aria_current`, `has_popup`, `live`. */
-extern const char *const current_words[], *const popup_words[], *const live_words[];
 #endif

@@ -1,103 +1,45 @@
-/* Which interfaces a node has, and those that are about several nodes: what is selected, and what matches a rule. */
+/* Interfaces that are about several nodes: what is selected, and what matches a rule. */
 #include "inside.h"
 #include <string.h>
 
-/* ---- Interfaces */
-
-bool has_interface(const view *v, ak_id id, const method *members) {
-    double number;
-    ak_bounds bounds;
-    ak_id root, above;
-    if (members == accessible_members || members == collection_members) return true;
-    if (members == component_members)
-        return ASK(node_bounds, v, ID(id), &bounds) == AK_DONE || (ASK(tree_root, v, &root) == AK_DONE && is_same(root, id));
-    if (members == action_members)
-        return has_flag(v, id, AK_CLICKABLE) || has_flag(v, id, AK_SUPPORTS_INCREMENT) || has_flag(v, id, AK_SUPPORTS_DECREMENT);
-    if (members == hyperlink_members)
-        return has_flag(v, id, AK_SUPPORTS_URL) || (shown_parent(v, id, &above) && mark_count(v, above) > 0);
-    if (members == text_members) return has_text(v, id) || mark_count(v, id) > 0;
-    if (members == hypertext_members) return mark_count(v, id) > 0;
-    if (members == selection_members) return has_flag(v, id, AK_CONTAINER_WITH_SELECTABLE_CHILDREN);
-    if (members == value_members) return read_number(v, id, AK_FIELD_NUMBER, &number);
-    if (members == table_members) return is_table(v, id);
-    return members == cell_members && is_cell(v, id);
-}
-
-GVariant *interfaces_of(request *r) {
-    GVariantBuilder b;
-    g_variant_builder_init(&b, G_VARIANT_TYPE("as"));
-    char name[48];
-    for (const interface *it = interfaces; it->name; it++) {
-        bool is_own = r->is_application ? it->members == accessible_members || it->members == application_members
-                                        : has_interface(r->now, r->id, it->members);
-        g_snprintf(name, sizeof name, SPI "%s", it->name);
-        if (is_own) g_variant_builder_add(&b, "s", name);
-    }
-    return g_variant_builder_end(&b);
-}
-
 /* ---- Selection */
 
-/* The selected items of a container: how many, and the one with a number. */
-static size_t selected_items(request *r, int64_t number, ak_id *found) {
-    g_autoptr(GArray) items = read_ids(r->now, r->id, AK_LIST_ITEMS);
-    size_t count = 0;
-    for (guint i = 0; i < items->len; i++)
-        if (is_selected(r->now, AT(items, i)) && (int64_t)count++ == number) *found = AT(items, i);
-    return count;
+TELLS(has_items, has_flag(v, id, AK_CONTAINER_WITH_SELECTABLE_CHILDREN))
+static GArray *selected_items(request *r) {
+    GArray *items = read_ids(r->now, r->id, AK_LIST_ITEMS);
+    for (guint i = items->len; i-- > 0;)
+        if (!is_selected(r->now, AT(items, i))) g_array_remove_index(items, i);
+    return items;
 }
 
-static GVariant *get_selected_count(request *r) {
-    ak_id none;
-    return g_variant_new_int32((int32_t)selected_items(r, -1, &none));
-}
-
-static bool given_item(request *r, ak_id *item) {
-    return r->numbers[0] >= 0 && selected_items(r, r->numbers[0], item) > (size_t)r->numbers[0];
-}
-
-static GVariant *get_selected_child(request *r) {
-    ak_id found;
-    return reference(r->adapter, given_item(r, &found) ? &found : NULL);
-}
-
-static GVariant *is_child_selected(request *r) {
-    ak_id child;
-    return g_variant_new_boolean(child_at(r, r->numbers[0], &child) && is_selected(r->now, child));
+/* The selected item with the number that a client gives. */
+static ak_id given_item(request *r) {
+    g_autoptr(GArray) items = selected_items(r);
+    return r->numbers[0] >= 0 && r->numbers[0] < items->len ? AT(items, r->numbers[0]) : NOBODY;
 }
 
 /* An item is selected, or not any more, by a click. */
-static GVariant *click_unless(request *r, bool is_found, ak_id item, bool is_so) {
-    if (!is_found || is_selected(r->now, item) == is_so || !has_flag(r->now, item, AK_CLICKABLE)) return FALSE_ANSWER;
+static GVariant *click_unless(request *r, ak_id item, bool is_so) {
+    if (is_selected(r->now, item) == is_so || !has_flag(r->now, item, AK_CLICKABLE)) return FALSE_ANSWER;
     r->id = item;
     return ask_application(r, AK_ATSPI_CLICK);
 }
 
-static GVariant *turn_child(request *r, bool is_on) {
-    ak_id child = r->id;
-    bool is_found = child_at(r, r->numbers[0], &child);
-    return click_unless(r, is_found, child, is_on);
-}
-
-ANSWERS(select_child, turn_child(r, true))
-ANSWERS(deselect_child, turn_child(r, false))
-static GVariant *deselect_selected_child(request *r) {
-    ak_id found = r->id;
-    bool is_found = given_item(r, &found);
-    return click_unless(r, is_found, found, false);
-}
-
+ANSWERS(get_selected_count, count_answer(selected_items(r)))
+ANSWERS(get_selected_child, reference(r->adapter, given_item(r)))
+ANSWERS(is_child_selected, g_variant_new_boolean(is_selected(r->now, child_at(r, r->numbers[0]))))
+ANSWERS(select_child, click_unless(r, child_at(r, r->numbers[0]), true))
+ANSWERS(deselect_child, click_unless(r, child_at(r, r->numbers[0]), false))
+ANSWERS(deselect_selected_child, click_unless(r, given_item(r), false))
 ANSWERS(refuse, FALSE_ANSWER)
 const method selection_members[] = {
     {"NSelectedChildren", NULL, "i", get_selected_count}, {"GetSelectedChild", "i", "(so)", get_selected_child},
     {"IsChildSelected", "i", "b", is_child_selected}, {"SelectChild", "i", "b", select_child}, {"DeselectChild", "i", "b", deselect_child},
-    {"DeselectSelectedChild", "i", "b", deselect_selected_child}, {"SelectAll", "", "b", refuse}, {"ClearSelection", "", "b", refuse},
-    END};
+    {"DeselectSelectedChild", "i", "b", deselect_selected_child}, {"SelectAll", "", "b", refuse}, {"ClearSelection", "", "b", refuse}, END};
 
 /* ---- Collection */
 
-enum { MATCH_ALL = 1, MATCH_ANY = 2, MATCH_NONE = 3, MATCH_EMPTY = 4 };
-enum { SORT_REVERSE = 4 };
+enum { MATCH_ALL = 1, MATCH_ANY = 2, MATCH_NONE = 3, MATCH_EMPTY = 4, SORT_REVERSE = 4 };
 
 /* What a client wants, and how each has to be there. */
 typedef struct {
@@ -118,6 +60,8 @@ static void read_bits(GVariant *list, uint64_t *words, size_t count) {
     g_variant_unref(list);
 }
 
+#define BIT_COUNT(word) (size_t)__builtin_popcountll(word)
+
 /* A node has so many of those that are wanted, and so many in all. */
 static bool is_match(int how, size_t has, size_t wanted, size_t in_all) {
     switch (how) {
@@ -129,17 +73,13 @@ static bool is_match(int how, size_t has, size_t wanted, size_t in_all) {
     }
 }
 
-static size_t bit_count(uint64_t word) {
-    return (size_t)__builtin_popcountll(word);
-}
-
 static bool match_interfaces(const rule *wanted, const view *v, ak_id id) {
     const char *name;
     GVariantIter iter;
     size_t count = g_variant_iter_init(&iter, wanted->interfaces), has = 0;
     while (g_variant_iter_next(&iter, "&s", &name))
         for (const interface *it = interfaces; it->name; it++)
-            has += g_ascii_strcasecmp(it->name, name) == 0 && has_interface(v, id, it->members);
+            has += g_ascii_strcasecmp(it->name + strlen(SPI), name) == 0 && it->is_of(v, id);
     return is_match(wanted->of_interfaces, has, count, 1);
 }
 
@@ -160,12 +100,12 @@ static bool match_attributes(const rule *wanted, const view *v, ak_id id) {
 static bool matches(const rule *wanted, const view *v, ak_id id) {
     unsigned role = role_of(v, id);
     size_t roles = 0, has = wanted->roles[role / 64] >> role % 64 & 1;
-    for (int i = 0; i < 4; i++) roles += bit_count(wanted->roles[i]);
+    for (int i = 0; i < 4; i++) roles += BIT_COUNT(wanted->roles[i]);
     /* (a node has one role) */
     bool fits = is_match(wanted->of_roles == MATCH_ALL ? MATCH_ANY : wanted->of_roles, has, roles, 1);
     if (fits) {
         uint64_t states = states_of(v, id);
-        fits = is_match(wanted->of_states, bit_count(states & wanted->states[0]), bit_count(wanted->states[0]), bit_count(states)) &&
+        fits = is_match(wanted->of_states, BIT_COUNT(states & wanted->states[0]), BIT_COUNT(wanted->states[0]), BIT_COUNT(states)) &&
                match_interfaces(wanted, v, id) && match_attributes(wanted, v, id);
     }
     return fits != wanted->is_inverted;
@@ -173,16 +113,11 @@ static bool matches(const rule *wanted, const view *v, ak_id id) {
 
 /* All below a node that matches, in the order of the tree. */
 static GArray *collect(const rule *wanted, const view *v, ak_id top) {
-    GArray *found = g_array_new(FALSE, FALSE, sizeof(ak_id));
-    g_autoptr(GArray) stack = g_array_new(FALSE, FALSE, sizeof(ak_id));
-    for (ak_id at = top;;) {
-        g_autoptr(GArray) list = read_ids(v, at, SHOWN_CHILDREN);
-        for (guint i = list->len; i-- > 0;) g_array_append_val(stack, AT(list, i));
-        if (stack->len == 0) return found;
-        at = AT(stack, stack->len - 1);
-        g_array_set_size(stack, stack->len - 1);
-        if (matches(wanted, v, at)) g_array_append_val(found, at);
-    }
+    GArray *found = read_ids(v, top, AK_LIST_FILTERED_DESCENDANTS);
+    guint count = 0;
+    for (guint i = 0; i < found->len; i++)
+        if (matches(wanted, v, AT(found, i))) AT(found, count++) = AT(found, i);
+    return g_array_set_size(found, count);
 }
 
 static GVariant *get_matches(request *r) {
@@ -195,20 +130,15 @@ static GVariant *get_matches(request *r) {
                   &wanted.of_roles, &wanted.interfaces, &wanted.of_interfaces, &wanted.is_inverted, &sort, &most, &traverse);
     read_bits(states, wanted.states, G_N_ELEMENTS(wanted.states));
     read_bits(roles, wanted.roles, G_N_ELEMENTS(wanted.roles));
-    g_autoptr(GArray) found = collect(&wanted, r->now, r->id), turned = g_array_new(FALSE, FALSE, sizeof(ak_id));
+    g_autoptr(GArray) found = collect(&wanted, r->now, r->id);
+    GArray *answer = new_ids();
     g_variant_unref(wanted.attributes);
     g_variant_unref(wanted.interfaces);
-    for (guint i = found->len; sort == SORT_REVERSE && i-- > 0;) g_array_append_val(turned, AT(found, i));
-    GArray *answer = sort == SORT_REVERSE ? turned : found;
-    if (most > 0 && (guint)most < answer->len) g_array_set_size(answer, (guint)most);
+    guint count = most > 0 ? MIN((guint)most, found->len) : found->len;
+    for (guint i = 0; i < count; i++) g_array_append_val(answer, AT(found, sort == SORT_REVERSE ? found->len - 1 - i : i));
     return references(r->adapter, answer);
 }
 
-static GVariant *get_active_descendant(request *r) {
-    ak_id found;
-    bool is_found = ASK(node_relative, r->now, ID(r->id), AK_RELATIVE_ACTIVE_DESCENDANT, FILTER, &found) == AK_DONE;
-    return reference(r->adapter, is_found ? &found : NULL);
-}
-
-const method collection_members[] = {{"GetMatches", "(aiia{ss}iaiiasib)uib", "a(so)", get_matches},
-                                     {"GetActiveDescendant", "", "(so)", get_active_descendant}, END};
+ANSWERS(get_active_descendant, reference(r->adapter, FOUND(node_relative, r->now, ID(r->id), AK_RELATIVE_ACTIVE_DESCENDANT, FILTER)))
+const method collection_members[] = {
+    {"GetMatches", "(aiia{ss}iaiiasib)uib", "a(so)", get_matches}, {"GetActiveDescendant", "", "(so)", get_active_descendant}, END};

@@ -10,13 +10,13 @@
  */
 #include "accesskit_atspi.h"
 #include <gio/gio.h>
+#include <inttypes.h>
 #include <stdio.h>
-#include <stdlib.h>
 #include <string.h>
 
 typedef struct {
     ak_atspi *adapter;
-    GPtrArray *commands; /* GStrings */
+    GPtrArray *commands; /* texts */
     guint next;
     const char *title;
     GMainLoop *loop;
@@ -34,7 +34,6 @@ static bool print_request(const ak_atspi_request *it, void *data) {
         printf(" %" G_GUINT64_FORMAT ":%zu,%" G_GUINT64_FORMAT ":%zu", it->anchor_run, it->anchor_character, it->focus_run,
                it->focus_character);
     printf("\n");
-    fflush(stdout);
     return true;
 }
 
@@ -44,63 +43,43 @@ static void print_trouble(const char *message, void *data) {
 }
 
 /* The root of the root tree as the child of a window: the id in the update's first line is the window's then. */
-static void put_in_window(GString *command, const char *title) {
-    char *line_end = strchr(command->str, '\n'), *root = strstr(command->str, " root=");
-    if (!title || !g_str_has_prefix(command->str, "update root ") || !root || root > line_end) return;
-    const char *rest = root + 6 + strspn(root + 6, "0123456789");
-    uint64_t id = g_ascii_strtoull(root + 6, NULL, 10), window = G_MAXUINT64;
-    const char *form = "%.*s%" G_GUINT64_FORMAT "%.*s\nnode %" G_GUINT64_FORMAT " Window label=\"%s\" children=%" G_GUINT64_FORMAT "%s";
-    g_autofree char *all = g_strdup_printf(form, (int)(root + 6 - command->str), command->str, window, (int)(line_end - rest), rest,
-                                           window, title, id, line_end);
-    g_string_assign(command, all);
-}
-
-static void free_command(gpointer command) {
-    g_string_free(command, TRUE);
+static char *put_in_window(const char *command, const char *title) {
+    const char *line_end = strchr(command, '\n'), *root = g_strstr_len(command, line_end - command, " root=");
+    if (!title || !g_str_has_prefix(command, "update root ") || !root) return g_strdup(command);
+    char *rest;
+    uint64_t window = G_MAXUINT64, id = g_ascii_strtoull(root + strlen(" root="), &rest, 10);
+    const char *form = "%.*s root=%" PRIu64 "%.*s\nnode %" PRIu64 " Window label=\"%s\" children=%" PRIu64 "%s";
+    return g_strdup_printf(form, (int)(root - command), command, window, (int)(line_end - rest), rest, window, title, id, line_end);
 }
 
 /* The updates and the lines about the host's focus, each as one text; questions are left out. */
 static GPtrArray *commands_of(const char *script, const char *title) {
-    GPtrArray *found = g_ptr_array_new_with_free_func(free_command);
-    GString *update = NULL;
-    g_auto(GStrv) lines = g_strsplit(script, "\n", -1);
-    for (char **line = lines; *line; line++) {
-        bool is_host = g_str_has_prefix(*line, "host ");
-        if (!update && !is_host && !g_str_has_prefix(*line, "update ")) continue;
-        GString *into = update ? update : g_string_new(NULL);
-        g_string_append(into, *line);
-        g_string_append_c(into, '\n');
-        bool is_whole = update ? strcmp(*line, "end") == 0 : is_host;
-        update = is_whole ? NULL : into;
-        if (is_whole) put_in_window(into, title);
-        if (is_whole) g_ptr_array_add(found, into);
+    GPtrArray *found = g_ptr_array_new_with_free_func(g_free);
+    for (const char *at = script, *end; (end = strchr(at, '\n')); at = end + 1) {
+        bool is_update = g_str_has_prefix(at, "update "), is_host = g_str_has_prefix(at, "host ");
+        if (is_update && !(end = strstr(at, "\nend\n"))) break;
+        if (is_update) end += strlen("\nend");
+        g_autofree char *command = g_strndup(at, (gsize)(end + 1 - at));
+        if (is_update || is_host) g_ptr_array_add(found, put_in_window(command, title));
     }
-    if (update) g_string_free(update, TRUE);
     return found;
-}
-
-static void print_outcome(shown *it, uint8_t answer, const ak_stop *stop, size_t signals, gint64 began) {
-    uint8_t name[48];
-    size_t length = 0, sent, requests;
-    ak_atspi_counts(it->adapter, &sent, &requests);
-    gint64 took = g_get_monotonic_time() - began;
-    if (answer == AK_REFUSED && ak_rule_name(stop->rule, name, sizeof name, &length) == AK_DONE) printf("refused %.*s", (int)length, name);
-    else if (answer == AK_BAD_LINE) printf("bad line %" G_GUINT64_FORMAT " of the command", stop->line);
-    else printf("%s", answer == AK_DONE ? "ok" : answer == AK_NO_MEMORY ? "no memory" : "lost");
-    printf(" step %u at %" G_GINT64_FORMAT ".%06d: %zu signals in %" G_GINT64_FORMAT " us\n", it->next, began / 1000000,
-           (int)(began % 1000000), sent - signals, took);
-    fflush(stdout);
 }
 
 static bool carry_out_next(shown *it) {
     if (it->next >= it->commands->len) return false;
-    GString *command = it->commands->pdata[it->next++];
+    const char *command = it->commands->pdata[it->next++];
     ak_stop stop = {0};
-    size_t signals, requests;
-    ak_atspi_counts(it->adapter, &signals, &requests);
+    uint8_t rule[48];
+    size_t length, before, after, requests;
+    ak_atspi_counts(it->adapter, &before, &requests);
     gint64 began = g_get_monotonic_time();
-    uint8_t answer = ak_atspi_feed(it->adapter, (const uint8_t *)command->str, command->len, &stop);
-    print_outcome(it, answer, &stop, signals, began);
+    uint8_t answer = ak_atspi_feed(it->adapter, (const uint8_t *)command, strlen(command), &stop);
+    gint64 took = g_get_monotonic_time() - began;
+    ak_atspi_counts(it->adapter, &after, &requests);
+    if (answer == AK_REFUSED && ak_rule_name(stop.rule, rule, sizeof rule, &length) == AK_DONE) printf("refused %.*s", (int)length, rule);
+    else if (answer == AK_BAD_LINE) printf("bad line %" G_GUINT64_FORMAT " of the command", stop.line);
+    else printf("%s", answer == AK_DONE ? "ok" : answer == AK_NO_MEMORY ? "no memory" : "lost");
+    printf(" step %u at %.6f: %zu signals in %" G_GINT64_FORMAT " us\n", it->next, (double)began / 1e6, after - before, took);
     return true;
 }
 
@@ -108,7 +87,6 @@ static gboolean go_on(gpointer data) {
     shown *it = data;
     if (carry_out_next(it)) return G_SOURCE_CONTINUE;
     printf("end of the script\n");
-    fflush(stdout);
     return G_SOURCE_REMOVE;
 }
 
@@ -135,7 +113,6 @@ static gboolean read_key(GIOChannel *source, GIOCondition condition, gpointer da
     else if (g_str_has_prefix(line, "counts")) printf("counts %zu signals %zu requests\n", signals, requests);
     else if (!carry_out_next(it)) printf("end of the script\n");
     printf("ready\n");
-    fflush(stdout);
     return G_SOURCE_CONTINUE;
 }
 
@@ -154,57 +131,47 @@ static bool read_options(int argc, char **argv, options *it) {
                               {"units", 0, 0, G_OPTION_ARG_INT, &it->units, "how many units make a pixel, 64 if nothing is said", "N"},
                               {"at", 0, 0, G_OPTION_ARG_STRING, &it->at, "where the window is on the screen", "X,Y"},
                               {NULL, 0, 0, G_OPTION_ARG_NONE, NULL, NULL, NULL}};
-    GOptionContext *context = g_option_context_new("< SCRIPT - an application on the accessibility bus with the interface of a script");
+    g_autoptr(GError) error = NULL;
+    g_autoptr(GOptionContext) context = g_option_context_new("< SCRIPT - an application on the accessibility bus");
     g_option_context_add_main_entries(context, entries, NULL);
-    GError *error = NULL;
-    bool is_well = g_option_context_parse(context, &argc, &argv, &error);
-    if (!is_well) fprintf(stderr, "show-atspi: %s\n", error->message);
-    else if (it->at && sscanf(it->at, "%d,%d", &it->x, &it->y) != 2) {
-        fprintf(stderr, "show-atspi: --at takes X,Y\n");
-        is_well = false;
-    }
-    g_option_context_free(context);
-    g_clear_error(&error);
-    return is_well;
+    if (g_option_context_parse(context, &argc, &argv, &error) && it->at && sscanf(it->at, "%d,%d", &it->x, &it->y) != 2)
+        error = g_error_new_literal(G_OPTION_ERROR, G_OPTION_ERROR_BAD_VALUE, "--at takes X,Y");
+    if (error) fprintf(stderr, "show-atspi: %s\n", error->message);
+    return !error;
 }
 
 /* Has the script go on by time or by lines. NULL: by time, or the lines can't be read. */
 static GIOChannel *begin_steps(shown *it, const options *how) {
-    GError *error = NULL;
-    if (how->every > 0) {
-        g_timeout_add((guint)(how->every * 1000), go_on, it);
-        return NULL;
-    }
-    GIOChannel *channel = g_io_channel_new_file(how->keys ? how->keys : "/dev/tty", "r", &error);
+    g_autoptr(GError) error = NULL;
+    if (how->every > 0) g_timeout_add((guint)(how->every * 1000), go_on, it);
+    GIOChannel *channel = how->every > 0 ? NULL : g_io_channel_new_file(how->keys ? how->keys : "/dev/tty", "r", &error);
     if (channel) g_io_add_watch(channel, G_IO_IN | G_IO_HUP, read_key, it);
-    else fprintf(stderr, "show-atspi: %s\n", error->message);
-    g_clear_error(&error);
+    if (error) fprintf(stderr, "show-atspi: %s\n", error->message);
     return channel;
 }
 
 int main(int argc, char **argv) {
-    options how = {.units = 64};
+    options how = {.units = 64, .name = "Proved"};
+    setvbuf(stdout, NULL, _IOLBF, 0);
     if (!read_options(argc, argv, &how)) return 2;
     ak_tree tree = AK_TREE_CLOSED;
     shown it = {.title = how.title, .loop = g_main_loop_new(NULL, FALSE)};
     g_autofree char *script = NULL;
-    if (g_file_get_contents("/dev/stdin", &script, NULL, NULL)) it.commands = commands_of(script, how.title);
-    else it.commands = commands_of("", NULL);
-    const char *name = how.name ? how.name : "Proved";
-    if (ak_tree_open(&tree) != AK_DONE || !(it.adapter = ak_atspi_new(name, &tree, print_request, print_trouble, &it))) {
+    g_file_get_contents("/dev/stdin", &script, NULL, NULL);
+    g_autofree char *lines = g_strconcat(script ? script : "", "\n", NULL);
+    it.commands = commands_of(lines, how.title);
+    if (ak_tree_open(&tree) != AK_DONE || !(it.adapter = ak_atspi_new(how.name, &tree, print_request, print_trouble, &it))) {
         fprintf(stderr, "show-atspi: out of memory\n");
         return 4;
     }
     ak_atspi_place(it.adapter, how.x, how.y, how.units);
-    ak_id root;
-    while (ak_tree_root(&tree, &root) != AK_DONE && carry_out_next(&it)) continue;
-    GIOChannel *channel = begin_steps(&it, &how);
+    while (ak_tree_root(&tree, &(ak_id){0}) != AK_DONE && carry_out_next(&it)) continue;
+    g_autoptr(GIOChannel) channel = begin_steps(&it, &how);
     bool can_go_on = channel || how.every > 0;
     if (can_go_on) g_main_loop_run(it.loop);
     ak_atspi_free(it.adapter);
     ak_tree_close(&tree);
     g_ptr_array_unref(it.commands);
-    if (channel) g_io_channel_unref(channel);
     g_main_loop_unref(it.loop);
     return can_go_on ? 0 : 2;
 }

@@ -8,26 +8,21 @@
 #define MARK "\xEF\xBF\xBC"
 
 size_t mark_count(const view *v, ak_id id) {
-    size_t count = 0;
-    if (has_flag(v, id, AK_SUPPORTS_TEXT_RANGES) || !is_of_page(v, id)) return 0;
-    ASK(node_count, v, ID(id), AK_COUNT_FILTERED_CHILDREN, FILTER, &count);
-    return count;
+    bool is_marked = !has_flag(v, id, AK_SUPPORTS_TEXT_RANGES) && !has_number(v, id) && is_of_page(v, id);
+    return is_marked ? count_of(v, id, AK_COUNT_FILTERED_CHILDREN) : 0;
 }
 
+TELLS(has_marks, mark_count(v, id) > 0)
+TELLS(has_any_text, has_text(v, id) || has_marks(v, id))
 GVariant *marks(size_t count) {
     GString *all = g_string_new(NULL);
     for (size_t i = 0; i < count; i++) g_string_append(all, MARK);
     return g_variant_new_take_string(g_string_free(all, FALSE));
 }
 
-/* Whether there is a mark at an offset. */
-static bool is_mark(const request *r, int64_t offset) {
-    return offset >= 0 && (size_t)offset < r->marks;
-}
-
-static ak_spot spot_at(int64_t index) {
-    return (ak_spot){.kind = AK_SPOT_INDEX, .index = (size_t)MAX(index, 0)};
-}
+/* Whether there is a mark at an offset, and the place of an offset. */
+#define IS_MARK(r, offset) ((offset) >= 0 && (size_t)(offset) < (r)->marks)
+#define SPOT_AT(offset) ((ak_spot){.kind = AK_SPOT_INDEX, .index = (size_t)MAX(offset, 0)})
 
 /* The whole text. */
 bool read_text(const view *v, ak_id id, GString *t) {
@@ -38,48 +33,40 @@ bool read_text(const view *v, ak_id id, GString *t) {
 }
 
 static size_t length_of(request *r) {
-    size_t length = r->marks;
-    if (!r->marks) ASK(text_length, r->now, ID(r->id), &length);
-    return length;
+    return r->marks ? r->marks : GIVEN(size_t, 0, text_length, r->now, ID(r->id));
 }
 
 static GVariant *part(request *r, size_t start, size_t end) {
     g_autoptr(GString) t = new_text();
-    if (start >= end) return g_variant_new_string("");
-    if (r->marks) return marks(MIN(end, r->marks) - MIN(start, r->marks));
-    if (!READ_TEXT(t, ASK(text_between, r->now, ID(r->id), start, end, INTO_TEXT(t)))) return g_variant_new_string("");
-    hide_password(r->now, r->id, t);
-    return g_variant_new_string(t->str);
+    if (start < end && r->marks) return marks(MIN(end, r->marks) - MIN(start, r->marks));
+    bool is_read = start < end && READ_TEXT(t, ASK(text_between, r->now, ID(r->id), start, end, INTO_TEXT(t)));
+    if (is_read) hide_password(r->now, r->id, t);
+    return g_variant_new_string(is_read ? t->str : "");
 }
 
-static bool index_of(const view *v, ak_id id, ak_spot_kind kind, int *index) {
-    ak_spot spot = {.kind = kind};
+/* The index of a place, or -1. */
+static int index_of(const view *v, ak_id id, ak_spot spot) {
     ak_position position;
-    if (ASK(text_place, v, ID(id), &spot, AK_WANT_INDEX, &position) != AK_DONE) return false;
-    *index = (int)position.index;
-    return true;
+    return ASK(text_place, v, ID(id), &spot, AK_WANT_INDEX, &position) == AK_DONE ? (int)position.index : -1;
 }
 
 int caret_of(const view *v, ak_id id) {
-    int index;
-    return index_of(v, id, AK_SPOT_SELECTION_FOCUS, &index) ? index : -1;
+    return index_of(v, id, (ak_spot){.kind = AK_SPOT_SELECTION_FOCUS});
 }
 
 /* Where the selection is; -1 and -1 if there is none. */
 bool selection_of(const view *v, ak_id id, int *start, int *end) {
-    int anchor, focus;
-    *start = *end = -1;
-    if (!index_of(v, id, AK_SPOT_SELECTION_ANCHOR, &anchor) || !index_of(v, id, AK_SPOT_SELECTION_FOCUS, &focus)) return false;
-    if (anchor == focus) return false;
-    *start = MIN(anchor, focus);
-    *end = MAX(anchor, focus);
-    return true;
+    int anchor = index_of(v, id, (ak_spot){.kind = AK_SPOT_SELECTION_ANCHOR}), focus = caret_of(v, id);
+    bool is_there = anchor >= 0 && focus >= 0 && anchor != focus;
+    *start = is_there ? MIN(anchor, focus) : -1;
+    *end = is_there ? MAX(anchor, focus) : -1;
+    return is_there;
 }
 
 /* ---- What is asked: of a text, since bus.c refuses what has none */
 
-ANSWERS(get_length, g_variant_new_int32((int32_t)length_of(r)))
-ANSWERS(get_caret, g_variant_new_int32(caret_of(r->now, r->id)))
+ANSWERS(get_length, INT_ANSWER(length_of(r)))
+ANSWERS(get_caret, INT_ANSWER(caret_of(r->now, r->id)))
 /* A negative end is that of the text. */
 static GVariant *get_text(request *r) {
     size_t length = length_of(r), start = MIN((size_t)MAX(r->numbers[0], 0), length);
@@ -88,7 +75,7 @@ static GVariant *get_text(request *r) {
 
 /* The unit that an offset is in. Each mark is one by itself, and all look alike. */
 static bool unit_at(request *r, size_t offset, ak_unit unit, size_t *start, size_t *end) {
-    ak_spot spot = spot_at((int64_t)offset);
+    ak_spot spot = SPOT_AT((int64_t)offset);
     ak_span span;
     bool is_whole = unit == AK_UNIT_FORMAT;
     *start = is_whole ? 0 : offset;
@@ -100,9 +87,7 @@ static bool unit_at(request *r, size_t offset, ak_unit unit, size_t *start, size
     return true;
 }
 
-static GVariant *unit_answer(request *r, size_t start, size_t end) {
-    return g_variant_new("(@sii)", part(r, start, end), (int32_t)start, (int32_t)end);
-}
+#define UNIT_ANSWER(r, start, end) g_variant_new("(@sii)", part(r, start, end), (int32_t)(start), (int32_t)(end))
 
 /* A sentence isn't a unit of the library: its line is answered. */
 static const uint8_t units[] = {AK_UNIT_CHARACTER, AK_UNIT_WORD, AK_UNIT_LINE, AK_UNIT_LINE, AK_UNIT_PARAGRAPH};
@@ -113,10 +98,10 @@ static const uint8_t boundary_units[] = {AK_UNIT_CHARACTER, AK_UNIT_WORD, AK_UNI
 static GVariant *string_beside(request *r, const uint8_t *table, size_t count, int side) {
     size_t length = length_of(r), offset = (size_t)r->numbers[0], number = (size_t)r->numbers[1], start, end;
     if (number >= count) return fail(r, "InvalidArgs", "there is no such unit of text");
-    if (r->numbers[0] < 0 || offset > length || !unit_at(r, offset, table[number], &start, &end)) return unit_answer(r, 0, 0);
-    if (side < 0 && (start == 0 || !unit_at(r, start - 1, table[number], &start, &end))) return unit_answer(r, 0, 0);
-    if (side > 0 && (end >= length || !unit_at(r, end, table[number], &start, &end))) return unit_answer(r, length, length);
-    return unit_answer(r, start, end);
+    if (r->numbers[0] < 0 || offset > length || !unit_at(r, offset, table[number], &start, &end)) return UNIT_ANSWER(r, 0, 0);
+    if (side < 0 && (start == 0 || !unit_at(r, start - 1, table[number], &start, &end))) return UNIT_ANSWER(r, 0, 0);
+    if (side > 0 && (end >= length || !unit_at(r, end, table[number], &start, &end))) return UNIT_ANSWER(r, length, length);
+    return UNIT_ANSWER(r, start, end);
 }
 
 ANSWERS(get_string_at, string_beside(r, units, G_N_ELEMENTS(units), 0))
@@ -125,16 +110,13 @@ ANSWERS(get_text_before, string_beside(r, boundary_units, G_N_ELEMENTS(boundary_
 ANSWERS(get_text_after, string_beside(r, boundary_units, G_N_ELEMENTS(boundary_units), 1))
 static GVariant *get_character_at(request *r) {
     g_autoptr(GVariant) found = g_variant_ref_sink(part(r, (size_t)r->numbers[0], (size_t)r->numbers[0] + 1));
-    return g_variant_new_int32((int32_t)g_utf8_get_char(g_variant_get_string(found, NULL)));
+    return INT_ANSWER(g_utf8_get_char(g_variant_get_string(found, NULL)));
 }
 
 /* ---- Selections */
 
-static GVariant *get_selection_count(request *r) {
-    int start, end;
-    return g_variant_new_int32(selection_of(r->now, r->id, &start, &end));
-}
-
+#define IS_SELECTED(r) selection_of((r)->now, (r)->id, &(int){0}, &(int){0})
+ANSWERS(get_selection_count, INT_ANSWER(IS_SELECTED(r)))
 static GVariant *get_selection(request *r) {
     int start = -1, end = -1;
     if (r->numbers[0] == 0) selection_of(r->now, r->id, &start, &end);
@@ -142,7 +124,7 @@ static GVariant *get_selection(request *r) {
 }
 
 static GVariant *ask_to_select(request *r, int64_t from, int64_t to, bool is_right) {
-    ak_spot anchor = spot_at(from), focus = spot_at(to);
+    ak_spot anchor = SPOT_AT(from), focus = SPOT_AT(to);
     ak_position one, other;
     if (!is_right || from < 0 || to < 0 || ASK(text_place, r->now, ID(r->id), &anchor, 0, &one) != AK_DONE ||
         ASK(text_place, r->now, ID(r->id), &focus, 0, &other) != AK_DONE)
@@ -157,59 +139,48 @@ static GVariant *ask_to_select(request *r, int64_t from, int64_t to, bool is_rig
 ANSWERS(set_caret, ask_to_select(r, r->numbers[0], r->numbers[0], true))
 ANSWERS(set_selection, ask_to_select(r, r->numbers[1], r->numbers[2], r->numbers[0] == 0))
 ANSWERS(remove_selection, ask_to_select(r, caret_of(r->now, r->id), caret_of(r->now, r->id), r->numbers[0] == 0))
-static GVariant *add_selection(request *r) {
-    int start, end;
-    return ask_to_select(r, r->numbers[0], r->numbers[1], !selection_of(r->now, r->id, &start, &end));
-}
+ANSWERS(add_selection, ask_to_select(r, r->numbers[0], r->numbers[1], !IS_SELECTED(r)))
 
 /* ---- Places */
 
-static ak_bounds around(const ak_bounds *boxes, size_t count) {
-    ak_bounds all = boxes[0];
-    for (size_t i = 1; i < count; i++)
-        all = (ak_bounds){MIN(all.x0, boxes[i].x0), MIN(all.y0, boxes[i].y0), MAX(all.x1, boxes[i].x1), MAX(all.y1, boxes[i].y1)};
-    return all;
+static ak_bounds around(ak_bounds one, ak_bounds other) {
+    return (ak_bounds){MIN(one.x0, other.x0), MIN(one.y0, other.y0), MAX(one.x1, other.x1), MAX(one.y1, other.y1)};
 }
 
 /* What the boxes of nodes below span, whose marks these are. */
-static GVariant *boxes_below(request *r, int64_t from, int64_t to, uint32_t coordinates) {
-    ak_bounds all = {0, 0, 0, 0}, both[2];
+static ak_bounds bounds_below(request *r, int64_t from, int64_t to) {
+    ak_bounds all = bounds_of(r->now, from < to ? child_at(r, from) : NOBODY);
     ak_id child;
-    for (int64_t i = from; i < to && child_at(r, i, &child); i++) {
-        if (ASK(node_bounds, r->now, ID(child), &both[1]) != AK_DONE) both[1] = (ak_bounds){0, 0, 0, 0};
-        both[0] = i == from ? both[1] : all;
-        all = around(both, 2);
-    }
-    return box_answer(r, box_of(r->adapter, &all), coordinates);
+    for (int64_t i = from + 1; i < to && is_some(child = child_at(r, i)); i++) all = around(all, bounds_of(r->now, child));
+    return all;
 }
 
 /* What the boxes of a part span: those of its characters if they are known, else that of the run, else that of the node. */
-static GVariant *part_box(request *r, int64_t from, int64_t to, uint32_t coordinates) {
-    ak_spot start = spot_at(from), end = spot_at(to);
-    ak_bounds boxes[64], all;
+static ak_bounds bounds_of_part(request *r, int64_t from, int64_t to) {
+    ak_spot start = SPOT_AT(from), end = SPOT_AT(to);
+    ak_bounds boxes[64], all = bounds_of(r->now, r->id);
     size_t count = 0;
     ak_position position;
-    if (r->marks) return boxes_below(r, MAX(from, 0), to, coordinates);
-    box found = extents(r->adapter, r->now, r->id);
     bool is_range = from >= 0 && from <= to;
     if (is_range && ASK(text_boxes, r->now, ID(r->id), &start, &end, boxes, G_N_ELEMENTS(boxes), &count) == AK_DONE && count > 0) {
-        all = around(boxes, MIN(count, G_N_ELEMENTS(boxes)));
-        found = box_of(r->adapter, &all);
-    } else if (from >= 0 && ASK(text_place, r->now, ID(r->id), &start, 0, &position) == AK_DONE &&
-               ASK(node_bounds, r->now, position.run, r->id.tree, &all) == AK_DONE)
-        found = box_of(r->adapter, &all);
-    return box_answer(r, found, coordinates);
+        all = boxes[0];
+        for (size_t i = 1; i < MIN(count, G_N_ELEMENTS(boxes)); i++) all = around(all, boxes[i]);
+    } else if (from >= 0 && ASK(text_place, r->now, ID(r->id), &start, 0, &position) == AK_DONE)
+        ASK(node_bounds, r->now, position.run, r->id.tree, &all);
+    return all;
 }
 
-ANSWERS(get_character_extents, part_box(r, r->numbers[0], r->numbers[0] + 1, (uint32_t)r->numbers[1]))
-ANSWERS(get_range_extents, part_box(r, r->numbers[0], r->numbers[1], (uint32_t)r->numbers[2]))
+static GVariant *part_box(request *r, int64_t from, int64_t to, int64_t coordinates) {
+    ak_bounds all = r->marks ? bounds_below(r, MAX(from, 0), to) : bounds_of_part(r, from, to);
+    return box_answer(r, box_of(r->adapter, all), (uint32_t)coordinates);
+}
+
+ANSWERS(get_character_extents, part_box(r, r->numbers[0], r->numbers[0] + 1, r->numbers[1]))
+ANSWERS(get_range_extents, part_box(r, r->numbers[0], r->numbers[1], r->numbers[2]))
 static GVariant *get_offset_at_point(request *r) {
     ak_point own;
-    ak_position position;
-    if (!own_point(r, &own)) return g_variant_new_int32(-1);
-    ak_spot spot = {.kind = AK_SPOT_POINT, .x = own.x, .y = own.y};
-    bool is_found = ASK(text_place, r->now, ID(r->id), &spot, AK_WANT_INDEX, &position) == AK_DONE;
-    return g_variant_new_int32(is_found ? (int32_t)position.index : -1);
+    if (!own_point(r, &own)) return INT_ANSWER(-1);
+    return INT_ANSWER(index_of(r->now, r->id, (ak_spot){.kind = AK_SPOT_POINT, .x = own.x, .y = own.y}));
 }
 
 ANSWERS(scroll_substring_to, ask_application(r, AK_ATSPI_SCROLL_INTO_VIEW))
@@ -224,10 +195,8 @@ static const struct {
     const char *name;
     const char *const *words;
     uint32_t count;
-} looks[] = {{AK_TEXT_STYLE_FONT_SIZE, "size", NULL, 0},
-             {AK_TEXT_STYLE_FONT_WEIGHT, "weight", NULL, 0},
-             {AK_TEXT_STYLE_FOREGROUND_COLOR, "fg-color", NULL, 0},
-             {AK_TEXT_STYLE_BACKGROUND_COLOR, "bg-color", NULL, 0},
+} looks[] = {{AK_TEXT_STYLE_FONT_SIZE, "size", NULL, 0}, {AK_TEXT_STYLE_FONT_WEIGHT, "weight", NULL, 0},
+             {AK_TEXT_STYLE_FOREGROUND_COLOR, "fg-color", NULL, 0}, {AK_TEXT_STYLE_BACKGROUND_COLOR, "bg-color", NULL, 0},
              {AK_TEXT_STYLE_ITALIC, "style", slants, G_N_ELEMENTS(slants)},
              {AK_TEXT_STYLE_UNDERLINE, "underline", lines, G_N_ELEMENTS(lines)},
              {AK_TEXT_STYLE_STRIKETHROUGH, "strikethrough", strikes, G_N_ELEMENTS(strikes)},
@@ -250,9 +219,8 @@ static void add_look(request *r, GVariantBuilder *b, const ak_spot *spot, size_t
 }
 
 static GVariant *looks_at(request *r, int64_t offset) {
-    GVariantBuilder b;
-    g_variant_builder_init(&b, G_VARIANT_TYPE("a{ss}"));
-    ak_spot spot = spot_at(offset);
+    GVariantBuilder b = G_VARIANT_BUILDER_INIT(G_VARIANT_TYPE("a{ss}"));
+    ak_spot spot = SPOT_AT(offset);
     g_autoptr(GString) t = new_text();
     for (size_t i = 0; i < G_N_ELEMENTS(looks); i++) add_look(r, &b, &spot, i);
     if (READ_TEXT(t, ASK(text_style_text, r->now, ID(r->id), &spot, AK_TEXT_STYLE_FONT_FAMILY, INTO_TEXT(t))))
@@ -294,14 +262,13 @@ const method text_members[] = {
 
 /* A link is an object of its own: a client takes a path for either a node or a link. */
 static GVariant *get_link(request *r) {
-    ak_id child;
+    ak_id child = IS_MARK(r, r->numbers[0]) ? child_at(r, r->numbers[0]) : NOBODY;
     char path[PATH_ROOM] = NULL_PATH;
-    if (is_mark(r, r->numbers[0]) && child_at(r, r->numbers[0], &child))
-        g_snprintf(path, sizeof path, LINK_PATHS ID_FORM, child.tree, child.node);
+    if (is_some(child)) g_snprintf(path, sizeof path, LINK_PATHS ID_FORM, child.tree, child.node);
     return g_variant_new("(so)", r->adapter->own, path);
 }
 
-ANSWERS(get_link_count, g_variant_new_int32((int32_t)r->marks))
-ANSWERS(get_link_at, g_variant_new_int32(is_mark(r, r->numbers[0]) ? (int32_t)r->numbers[0] : -1))
-const method hypertext_members[] = {{"GetNLinks", "", "i", get_link_count}, {"GetLink", "i", "(so)", get_link},
-                                    {"GetLinkIndex", "i", "i", get_link_at}, END};
+ANSWERS(get_link_count, INT_ANSWER(r->marks))
+ANSWERS(get_link_at, INT_ANSWER(IS_MARK(r, r->numbers[0]) ? r->numbers[0] : -1))
+const method hypertext_members[] = {
+    {"GetNLinks", "", "i", get_link_count}, {"GetLink", "i", "(so)", get_link}, {"GetLinkIndex", "i", "i", get_link_at}, END};

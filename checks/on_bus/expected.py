@@ -48,6 +48,10 @@ def role(world, id):
         return "toggle button"
     if node.role == "MultilineTextInput" and is_of_page(world, id):
         return "entry"
+    if node.role == "MenuItem" and [world.nodes[it].role for it in children(world, id)[:1]] == ["Menu"]:
+        return "menu"
+    if node.role == "Menu" and parent(world, id) and world.nodes[parent(world, id)].role == "MenuItem":
+        return "filler"
     return ROLES.get(role_shown(node.role), "unknown")
 
 
@@ -113,8 +117,8 @@ def text(world, id):
 
 
 def marks(world, id):
-    """How many marks are its text: one for each child, of what is in a page and has no text of its own."""
-    return len(children(world, id)) if is_of_page(world, id) and not is_text(world, id) else 0
+    """How many marks are its text: one for each child, of what is in a page and has neither a text of its own nor a number."""
+    return len(children(world, id)) if is_of_page(world, id) and not is_text(world, id) and world.nodes[id].number is None else 0
 
 
 def link(world, id):
@@ -245,6 +249,8 @@ def attributes(world, id):
         "posinset": None if position is None else position + 1,
         "current": node.aria_current,
         "haspopup": node.has_popup,
+        "explicit-name": "true" if role(world, id) == "panel" and node.label is not None else None,
+        "sort": node.sort_direction,
         "xml-roles": ARIA.get(role_shown(node.role)),
         "table-cell-index": cell_index(place(world, id)),
     }

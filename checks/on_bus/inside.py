@@ -11,6 +11,7 @@ from session import TOP, Checks
 import misuse
 import originals
 import sayings
+import times
 from trees import Comparison
 
 EXAMPLES = os.path.join(TOP, "examples")
@@ -59,7 +60,7 @@ def main(program, atree, *parts):
             for printed, passed, failed in pool.map(lambda it: apart(program, atree, it[0]), examples):
                 print(printed, flush=True)
                 checks.passed, checks.failed = checks.passed + passed, checks.failed + failed
-    for module in (misuse, sayings, originals):
+    for module in (misuse, sayings, originals, times):
         if module.__name__ in parts:
             module.check(checks, program)
     print(f"{checks.passed} passed, {checks.failed} failed", flush=True)

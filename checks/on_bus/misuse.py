@@ -33,12 +33,18 @@ host on
 """
 STEP = 'update root focus=1\nnode 1 Button label="Go {}" actions=Click,Focus bounds=0,0,640,640\nend\n'
 PAGE = """update root focus=1 root=0
-node 0 RootWebArea label="Page" children=1,2,3 bounds=0,0,6400,6400
+node 0 RootWebArea label="Page" children=1,2,3,4 bounds=0,0,6400,6400
 node 1 Link label="Go" url="https://example.org" actions=Click,Focus bounds=0,0,640,640
 node 2 Other(328) children=20 bounds=0,640,640,1280
 node 20 Label value="Title" bounds=0,640,640,1280
 node 3 Paragraph children=30
 node 30 Label value="Words"
+node 4 Other(370) label="Table" children=5,6
+node 5 Other(354) children=50,51
+node 50 Other(267) label="Name"
+node 51 Other(267) label="Count"
+node 6 Other(354) children=60
+node 60 Other(356) label="Only"
 end
 host on
 """
@@ -250,6 +256,15 @@ TAKING = [
     ("Hyperlink", "GetURI", "i"),
     ("Hypertext", "GetLink", "i"),
     ("Hypertext", "GetLinkIndex", "i"),
+    ("Table", "GetAccessibleAt", "ii"),
+    ("Table", "GetIndexAt", "ii"),
+    ("Table", "GetRowAtIndex", "i"),
+    ("Table", "GetColumnAtIndex", "i"),
+    ("Table", "GetRowDescription", "i"),
+    ("Table", "GetRowExtentAt", "ii"),
+    ("Table", "GetColumnExtentAt", "ii"),
+    ("Table", "GetRowHeader", "i"),
+    ("Table", "GetColumnHeader", "i"),
 ]
 
 
@@ -306,10 +321,10 @@ def asked_of(checks, program):
 
 
 def asked_of_page(checks, program):
-    """The same of a page, whose text is marks."""
+    """The same of a page, whose text is marks, and of a table in it."""
     running = start(program, "Page", PAGE)
     listener = Listener(application("Page").app.bus_name)
-    random_calls(checks, listener, ["0/0", "0/1", "0/2", "0/3", "0/20", "0/30", "root"], seed=2)
+    random_calls(checks, listener, ["0/0", "0/1", "0/2", "0/3", "0/20", "0/30", "0/4", "0/5", "0/51", "0/60", "root"], seed=2)
     checks.that(goes_on(running), "after wrong calls of a page it doesn't go on")
     running.say("quit")
     listener.close()

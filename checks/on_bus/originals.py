@@ -5,6 +5,9 @@
 A page is shown by Chromium, an application runs, and keys are pressed while Orca reads it and a recorder of tools/ writes it as a
 script. Then the adapter has that script on the bus, and for each key it tells the same key and carries out what was recorded in that
 step. What Orca says in each step is compared, saying by saying: SUBJECTS has the keys. It prints each saying that differs, and a table.
+
+What is said while a page is loaded depends on when which event comes, and decides what is said of the first key: so of a page that key
+is counted apart.
 """
 
 import os
@@ -107,16 +110,16 @@ def hear_original(subject, folder):
     """What is said in each step, and the commands that were recorded in it."""
     orca = sayings.Orca()
     original = Original(subject, folder)
-    said, counts = [orca.hear()], []
-    time.sleep(WRITTEN)
-    said[0] += orca.hear()
-    for key in subject.keys.split():
+    said, counts = [], []
+    for key in ["", *subject.keys.split()]:
         counts.append(len(original.commands()))
-        original.press(key)
+        if key:
+            original.press(key)
         said.append(orca.hear())
         time.sleep(WRITTEN)
+        wait_until(sayings.is_at_rest)
         said[-1] += orca.hear()
-    counts.append(len(original.commands()))
+    counts = [*counts[1:], len(original.commands())]
     all_of = original.commands()
     original.end()
     orca.end()
@@ -144,22 +147,30 @@ def hear_recording(subject, program, recorded):
     return said
 
 
-def compare(name, subject, original, recording):
-    """Prints what is said in each step, with `-` what is said of the original alone, with `+` of the recording alone, and with `=` where
+def compare_step(about, one, other):
+    """Prints what is said in a step, with `-` what is said of the original alone, with `+` of the recording alone, and with `=` where
     both say the same words in other pieces. Gives how many sayings there are, and how many of these are other pieces, and other words."""
-    count = pieces = differ = 0
-    for key, one, other in zip(subject.keys.split(), original, recording):
-        count += max(len(one), len(other))
-        print(f"{name}: {key}", flush=True)
-        for kind, a, b, c, d in SequenceMatcher(None, one, other, autojunk=False).get_opcodes():
-            marks = "      ", "      "
-            if kind != "equal":
-                is_same = words(one[a:b]) == words(other[c:d])
-                pieces += max(b - a, d - c) if is_same else 0
-                differ += 0 if is_same else max(b - a, d - c)
-                marks = ("    = ", None) if is_same else ("    - ", "    + ")
-            print(*(marks[0] + it for it in one[a:b]), *(marks[1] + it for it in other[c:d] if marks[1] == "    + "), sep="\n", flush=True)
-    return count, pieces, differ
+    pieces = differ = 0
+    print(about, flush=True)
+    pair = [[tuple(words([it])) for it in side] for side in (one, other)]
+    for kind, a, b, c, d in SequenceMatcher(None, *pair, autojunk=False).get_opcodes():
+        marks = "      ", "      "
+        if kind != "equal":
+            is_same = words(one[a:b]) == words(other[c:d])
+            pieces += max(b - a, d - c) if is_same else 0
+            differ += 0 if is_same else max(b - a, d - c)
+            marks = ("    = ", None) if is_same else ("    - ", "    + ")
+        print(*(marks[0] + it for it in one[a:b]), *(marks[1] + it for it in other[c:d] if marks[1] == "    + "), sep="\n", flush=True)
+    return max(len(one), len(other)), pieces, differ
+
+
+def compare(name, subject, original, recording):
+    """Compares each step. Gives how many sayings there are, how many of these are other pieces, and other words; and of the first key of a
+    page, which isn't counted in these, how many there are and how many are other words."""
+    keys = subject.keys.split()
+    counts = [compare_step(f"{name}: {key}", one, other) for key, one, other in zip(keys, original, recording)]
+    first = counts.pop(0) if subject.page else (0, 0, 0)
+    return (*map(sum, zip(*counts)), first[0], first[2])
 
 
 def words(said):
@@ -180,10 +191,10 @@ def check(checks, program, names=()):
         rows.append((name, *compare(name, subject, original[1:], recording[1:])))
     manager.terminate()
     manager.wait()
-    print("| of | sayings | in other pieces | in other words |\n|---|---|---|---|")
+    print("| of | sayings | in other pieces | in other words | of the first key of a page | in other words |\n|---|---|---|---|---|---|")
     all_of = ("all", *map(sum, zip(*(it[1:] for it in rows))))
     for row in [*rows, all_of]:
-        print("| {} | {} | {} | {} |".format(*row), flush=True)
+        print("| {} | {} | {} | {} | {} | {} |".format(*row), flush=True)
     checks.that(10 * all_of[3] <= all_of[1], f"of {all_of[1]} sayings {all_of[3]} differ")
 
 

@@ -6,6 +6,7 @@ words are keys that are pressed in this order, and with `?` what is said isn't c
 row counts once: of a heading in browse mode Orca says both the heading and the text in it.
 """
 
+import glob
 import os
 import pty
 import re
@@ -89,7 +90,8 @@ class Orca:
                 size, changed = len(log), now
             said = self.spoken()[self.count :]
             once = [it for it, after in zip(said, [*said[1:], None]) if it != after]
-            if now - changed > SILENCE and (told is None or fits(once, told) or now - begun > PATIENCE):
+            is_over = told is None or fits(once, told)
+            if now - changed > SILENCE and (is_over and is_at_rest() or now - begun > PATIENCE):
                 break
         self.count += len(said)
         return once
@@ -102,6 +104,22 @@ class Orca:
             self.process.kill()
             self.process.wait()
         self.home.cleanup()
+
+
+def is_at_rest():
+    """Whether no process of this session waits for a processor: on a busy machine what isn't logged yet may still come."""
+    bus = os.environ["DBUS_SESSION_BUS_ADDRESS"].encode()
+    for folder in glob.glob("/proc/[0-9]*"):
+        try:
+            with open(f"{folder}/environ", "rb") as file:
+                is_own = bus in file.read() and folder != f"/proc/{os.getpid()}"
+            for path in glob.glob(f"{folder}/task/*/stat") if is_own else ():
+                with open(path, encoding="utf-8", errors="replace") as file:
+                    if file.read().rpartition(")")[2].split()[0] == "R":
+                        return False
+        except OSError:
+            continue
+    return True
 
 
 def fits(said, told):

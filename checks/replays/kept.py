@@ -8,8 +8,8 @@ import re
 from typing import NamedTuple
 
 from model.fields import ROOT as ROOT_TREE
-from model.programs import find, world_of
-from model.scripts import Play, told_by
+from model.programs import find
+from model.scripts import Play, told_by, world_of
 from model.texts import flat_text, is_text, label_of, value_of
 from model.views import bounding_box
 from model.worlds import node_named
