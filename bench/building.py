@@ -8,6 +8,7 @@ import subprocess
 HERE = os.path.dirname(os.path.abspath(__file__))
 ATREE = os.path.join(HERE, "..", "crates", "atree")
 SPEAK = os.path.join(HERE, "..", "crates", "speak")
+FIND = os.path.join(HERE, "..", "crates", "find")
 
 # The crate of the works is there for as long as it is built: the gate doesn't know it.
 MADE = os.path.join(HERE, "made")
@@ -63,3 +64,8 @@ def build_atree():
 def build_speak():
     """The path of the program that says what changes."""
     return proved(SPEAK, "speak")
+
+
+def build_find():
+    """The path of the program that searches the tree of a script."""
+    return proved(FIND, "find", "--help")

@@ -12,6 +12,7 @@ LOAD_HEADS += ["seconds, as ratio"]
 SIZE_HEADS = ["load", "ids", "here", "growth", "Rust's", "ratios", "to reach", "reached"]
 GROWTH_HEADS = ["work", "sizes", "here", "growth", "Rust's", "to reach", "reached"]
 SPOKEN_HEADS = ["what `speak` reads", "sizes", "here", "greatest growth", "to reach", "reached"]
+FOUND_HEADS = ["what `find` searches for", *SPOKEN_HEADS[1:]]
 HOSTILE_HEADS = ["work", *SENT_IDS, *HOSTILE_IDS, "worst, to spread", "to reach", "reached"]
 
 
@@ -27,8 +28,9 @@ class Bench:
     `crates` are the Rust crate's programs as cargo builds them and as one module, or none; `kept` has what was measured of them
     last."""
 
-    def __init__(self, works, atree, bare, speak, crates, kept):
-        self.works, self.atree, self.bare, self.speak, self.crates, self.kept = works, atree, bare, speak, crates, kept
+    def __init__(self, works, atree, bare, speak, find, crates, kept):
+        self.works, self.atree, self.bare, self.speak, self.find = works, atree, bare, speak, find
+        self.crates, self.kept = crates, kept
         self.lost = []
 
     def programs_of(self, work):
@@ -175,22 +177,29 @@ class Bench:
             self.is_reached(hostile.work, worst, hostile.ratio, hostile.is_reached),
         ]
 
-    def spoken(self, run):
-        """The instructions of `speak` on a script, of which it has to say what is to be said."""
-        counted = self.speak.count(run)
-        if counted.printed != script_of(run)[1].strip():
-            raise SystemExit(f"{run}: said something else")
+    def read(self, program, run):
+        """The instructions of a program on a script, of which it has to print what is to be printed."""
+        counted = program.count(run)
+        if counted.printed != script_of(run.rpartition(" < ")[2])[1].strip():
+            raise SystemExit(f"{run}: printed something else")
         return counted.instructions
+
+    def doubled(self, row, here):
+        """The cells of these figures, each at twice the size of the one before."""
+        growth = max(later / earlier for earlier, later in zip(here, here[1:]))
+        return [
+            row.work,
+            ", ".join(sized(size) for size in row.sizes),
+            ", ".join(told(figure, "instructions") for figure in here),
+            f"{growth:.2f}",
+            f"{row.ratio:.2f}" if row.ratio else "-",
+            self.is_reached(row.work, growth, row.ratio, row.is_reached),
+        ]
 
     def spoken_row(self, spoken):
         """The cells of a script that is spoken."""
-        here = [self.spoken(run) - self.spoken(less) for run, less in spoken.runs()]
-        growth = max(later / earlier for earlier, later in zip(here, here[1:]))
-        return [
-            spoken.work,
-            ", ".join(sized(size) for size in spoken.sizes),
-            ", ".join(told(figure, "instructions") for figure in here),
-            f"{growth:.2f}",
-            f"{spoken.ratio:.2f}" if spoken.ratio else "-",
-            self.is_reached(spoken.work, growth, spoken.ratio, spoken.is_reached),
-        ]
+        return self.doubled(spoken, [self.read(self.speak, run) - self.read(self.speak, less) for run, less in spoken.runs()])
+
+    def found_row(self, found):
+        """The cells of a search in a script's tree."""
+        return self.doubled(found, [self.read(self.find, run) for run in found.runs()])

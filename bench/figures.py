@@ -171,6 +171,23 @@ class Spoken:
 
 
 @dataclass
+class Found:
+    """A row of the table of searches: `find` with these arguments, on a script at several sizes. What is to be reached is the greatest
+    figure over the one before it."""
+
+    work: str
+    words: str
+    script: str
+    sizes: list
+    ratio: float | None = None
+    is_reached: bool = False
+
+    def runs(self):
+        """The words of the run at each size."""
+        return [f"{self.words} < {self.script} {size}" for size in self.sizes]
+
+
+@dataclass
 class Rows:
     """The rows of all tables."""
 
@@ -179,6 +196,7 @@ class Rows:
     loads: list
     hostile: list
     spoken: list
+    found: list
 
     def measured(self):
         """All works that are measured."""
@@ -195,7 +213,7 @@ def load_rows():
     """The rows of all tables."""
     with open(FILE, encoding="utf-8") as file:
         rows = json.load(file)
-    kinds = {"works": Work, "growths": Growth, "loads": Load, "hostile": Hostile, "spoken": Spoken}
+    kinds = {"works": Work, "growths": Growth, "loads": Load, "hostile": Hostile, "spoken": Spoken, "found": Found}
     return Rows(**{name: [kind(**row) for row in rows[name]] for name, kind in kinds.items()})
 
 

@@ -46,6 +46,9 @@ def kept_counts(path):
 class Program:
     """A program, with what is counted of it."""
 
+    # With which statuses a run may end.
+    statuses = (0,)
+
     def __init__(self, path):
         self.path = os.path.abspath(path)
         if not os.access(self.path, os.X_OK):
@@ -62,7 +65,9 @@ class Program:
         if words not in self.counted:
             arguments, script = self.given(words)
             command = [*CACHEGRIND, self.path, *arguments]
-            ran = subprocess.run(command, input=script, capture_output=True, text=True, check=True)
+            ran = subprocess.run(command, input=script, capture_output=True, text=True, check=False)
+            if ran.returncode not in self.statuses:
+                raise SystemExit(f"{self.path} {words}: status {ran.returncode}: {ran.stderr[:500]}")
             counted = re.search(r"I +refs: +([\d,]+)", ran.stderr).group(1)
             self.counted[words] = Counted(int(counted.replace(",", "")), ran.stdout.strip())
             self.keep(words)
@@ -93,10 +98,18 @@ class Program:
 
 
 class Reader(Program):
-    """A program that reads a script, which the words of a run name."""
+    """A program that reads a script, which the words of a run name behind its arguments: `speak` in `relabelled 2000`, `find` in
+    `Button Deep < toolbars 2000`."""
 
     def given(self, words):
-        return [], script_of(words)[0]
+        arguments, _, script = words.rpartition(" < ")
+        return arguments.split(), script_of(script)[0]
+
+
+class Finder(Reader):
+    """`find`, whose status is 1 where no node is found."""
+
+    statuses = (0, 1)
 
 
 def count_ahead(runs):

@@ -1,4 +1,4 @@
-"""Scripts for `atree` and `speak`, and their expected output; and scripts of deep trees for `page`."""
+"""Scripts for `atree`, `speak` and `find`, and their expected output; and scripts of deep trees for `page`."""
 
 
 def flat(count):
@@ -70,6 +70,19 @@ def toolbars(count, beside=""):
     yield f'node {count} Button label="Deep"\n'
     yield f'node {count + 1} {beside} value="a"\n' if beside else ""
     yield "end\n"
+
+
+def deepest_found(count):
+    """The button, by a path that has each toolbar."""
+    yield f'0:{count}\n  value none\n  path Window "App" > '
+    yield from ('Toolbar "Deep" > ' for _ in range(1, count))
+    yield 'Button "Deep"\n  bounds none\n'
+
+
+def no_toolbar_found(count):
+    """No toolbar with another label, and all toolbars, since they have the role."""
+    yield "none\n"
+    yield from (f'  role 0:{id} Toolbar "Deep"\n' for id in range(1, count))
 
 
 # Scripts of which `deep_pages.py` makes pages.
@@ -169,6 +182,9 @@ SCRIPTS = {
     "relabelled-regions": (lambda count: relabelled_chain(downward(count), count), lambda count: said_of_regions(downward(count))),
     "groups": (lambda count: deep_buttons(count, 0), lambda count: said_of_buttons(count, 0)),
     "focus-in-groups": (lambda count: deep_buttons(count, FOCUS_MOVES), lambda count: said_of_buttons(count, FOCUS_MOVES)),
+    "toolbars": (toolbars, deepest_found),
+    "toolbars-beside-a-password": (lambda count: toolbars(count, beside="PasswordInput"), deepest_found),
+    "toolbars-with-another-label": (toolbars, no_toolbar_found),
 }
 
 
