@@ -50,12 +50,12 @@ ON_PROGRAMS = {
     "checks/converse": {"atree", "find", "page", "record", "speak"},
     "checks/from-c": {"atree", "fed_tree_c"},
     # (after the check before this one, which leaves the archive)
-    "checks/release": {"atree", "fed_tree_c", "find", "page", "read", "record", "speak"},
+    "checks/release": {"atree", "compare", "fed_tree_c", "find", "page", "read", "record", "speak"},
     # (where the packages that it needs are there)
     "checks/atspi": {"atree", "fed_tree_c"},
     "checks/refused-growths": {"atree", "growths"},
     "checks/recorders --programs": {"atree", "find", "speak"},
-    "tools/check-documents --programs": {"atree", "find", "page", "read", "record", "speak"},
+    "tools/check-documents --programs": {"atree", "compare", "find", "page", "read", "record", "speak"},
 }
 WRONG = "checks/wrong --jobs 1"
 WRONG_BODIES = os.path.join(TOP, "checks", "wrong-bodies")

@@ -639,13 +639,12 @@ def tells_fault(page, errors):
 
 
 def is_ended(page, told):
-    """Whether a page is a beginning of another one, and then says at once why it ends, and lists its states, but for the last if that was
-    only begun."""
+    """Whether a page is a beginning of another one, and then says at once why it ends, and lists its states, each of which is whole."""
     before, note, after = page.rpartition(b'<p class="refused">Line ')
     if not note or not told.startswith(before.removesuffix(b"</section>\n")) or not page.endswith(b"</html>\n"):
         return False
     items, count = listed_items(after), before.count(b'<section id="state-')
-    return len(items) in (count, count - 1) and items == listed_items(told)[: len(items)]
+    return len(items) == count and items == listed_items(told)[:count]
 
 
 def listed_items(page):

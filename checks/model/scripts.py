@@ -361,6 +361,14 @@ class Play:
         return answer(self.world, id, *asked) if id else "no node"
 
 
+def world_of(script):
+    """The world that a script without a bad line leaves, which is bytes."""
+    play = Play()
+    for line in script.split(b"\n"):
+        play.line(line)
+    return play.world
+
+
 def told_by(script, play=None, before=0):
     """What a script, which is bytes, prints by the model, line by line, and the number of its bad line, if it has one. Where
     it goes on from another one, so many lines came before."""

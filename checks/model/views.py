@@ -199,6 +199,12 @@ def common_filter(world, id):
     return CUT_OFF if is_cut_off or is_clipped(world, id) else INCLUDED
 
 
+def is_shown(world, root, id):
+    """Whether the common filter shows the node below the root, or the root itself."""
+    way = [] if id == root else between(world, root, id)
+    return common_filter(world, id) == INCLUDED and all(common_filter(world, up) != CUT_OFF for up in way)
+
+
 def common_filter_with_root(world, id):
     """The same, but the root tree's root is included."""
     return INCLUDED if id == root_named(world, ROOT) else common_filter(world, id)

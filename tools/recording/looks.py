@@ -9,12 +9,23 @@ from recording.devtools import BrowserError
 from recording.names import CHOICE_OF_DEVTOOLS, TEXT_OF_DEVTOOLS
 from recording.script import clean
 
-# The field that has the focus: what is typed there, unless it is a password, and its selection, in UTF-16 code units.
+# The field that has the focus: what is typed there, unless it is a password, and its selection, in UTF-16 code units. Of an editable part
+# of the page no text, and both ends of the selection, each as the number of a text that is drawn in that part, and a place in it.
 FIELD = """(() => {
     let at = document.activeElement;
     while (at && at.shadowRoot && at.shadowRoot.activeElement) at = at.shadowRoot.activeElement;
-    if (!at || !("selectionStart" in at)) return null;
-    return [at.type == "password" ? "" : at.value, at.selectionStart, at.selectionEnd, at.selectionDirection];
+    if (!at) return null;
+    if ("selectionStart" in at) return [at.type == "password" ? "" : at.value, at.selectionStart, at.selectionEnd, at.selectionDirection];
+    if (!at.isContentEditable) return null;
+    const all = document.createTreeWalker(at, NodeFilter.SHOW_TEXT), chosen = getSelection(), range = document.createRange();
+    const ends = [[chosen.anchorNode, chosen.anchorOffset], [chosen.focusNode, chosen.focusOffset]], found = [null, null];
+    for (let text, count = 0; (text = all.nextNode()); ) {
+        range.selectNodeContents(text);
+        if (!range.getClientRects().length) continue;
+        ends.forEach(([node, place], end) => { if (node == text) found[end] = [count, place]; });
+        count++;
+    }
+    return [null, ...found, null];
 })()"""
 SHAPE = "[scrollX, scrollY, innerWidth, innerHeight, document.documentElement.scrollWidth, document.documentElement.scrollHeight]"
 SNAPSHOT = {"computedStyles": ["overflow-x", "overflow-y"]}

@@ -13,6 +13,8 @@ CLICKED = {"Button", "CheckBox", "Link", "MenuItem", "MenuItemCheckBox", "MenuIt
 CLICKED |= {"TreeItem", "ComboBox", "DisclosureTriangle", "MenuListOption", "ColorWell"}
 STEPPED = {"Slider", "SpinButton"}
 LEVELS = {"Heading", "TreeItem", "ListItem", "Row"}
+# Runs of one line may overlap by so much, and a part of a date's field is at most so many levels below it.
+LEEWAY, MOST_PARTS = 64, 8
 # Ids of nodes that Chromium has without an element are below 0: they follow from here.
 WITHOUT_ELEMENT = 5 * 10**9
 
@@ -39,6 +41,7 @@ class Page:
         self.raw = {key: node for key, node in seen.nodes.items() if isinstance(node, dict) and id_of(key) is not None}
         shown = ((key, node) for key, node in self.raw.items() if not node.get("ignored"))
         self.by_element = {node["of"]: id_of(key) for key, node in shown if isinstance(node.get("of"), int)}
+        self.above, self.runs, self.focused = {}, {}, None
 
     def tree(self):
         """The whole tree, or `None` if there is none to be seen."""
@@ -52,6 +55,9 @@ class Page:
             new = [one for one in dict.fromkeys(below) if one not in seen]
             seen.update(new)
             todo += reversed(new)
+        for key in seen:
+            if self.role(key) in EDITS and self.element(key).get("tag") not in ("INPUT", "TEXTAREA"):
+                self.put_lines(key)
         root = id_of(root)
         return Tree(root, root if self.focus is None else self.focus, self.nodes)
 
@@ -100,8 +106,9 @@ class Page:
         self.put_states(key, kind, fields)
         self.put_place(key, kind, fields, is_root)
         self.put_relations(key, fields)
+        self.above.update((one, key) for one in below if one not in self.above)
         if properties.get("focused") is True and not is_root:
-            self.focus = id
+            self.focus, self.focused = id, key
         children = [id_of(one) for one in below]
         if kind in EDITS and self.element(key).get("tag") in ("INPUT", "TEXTAREA"):
             children, below = self.field_text(key, kind, fields), []
@@ -119,11 +126,22 @@ class Page:
             return "MultilineTextInput"
         if said == "combobox" and tag == "INPUT":
             return "EditableComboBox"
+        # (as Chromium has it on the bus)
+        if said == "option" and "MenuListPopup" in [self.raw[one].get("role") for one in self.above_of(key, 2)]:
+            return "MenuListOption"
         return ROLE_OF_DEVTOOLS.get(said, "GenericContainer")
+
+    def above_of(self, key, most):
+        """The nodes above one, at most so many of them."""
+        found = []
+        while len(found) < most and key in self.above:
+            key = self.above[key]
+            found.append(key)
+        return found
 
     def put_texts(self, key, kind, fields):
         """Label, value, description, and what attributes have."""
-        name, own = self.of(key, "name", str, ""), self.attributes(key)
+        name, own = self.part_name(key, self.of(key, "name", str, "")), self.attributes(key)
         if kind == "Label":
             fields["value"] = self.flat(key).strip() if self.raw[key].get("role") in ("LabelText", "Legend") else name
         else:
@@ -142,6 +160,14 @@ class Page:
             number = int(word) if word.isascii() and word.isdigit() and len(word) < 19 else 0
             fields[field] = (number if field == "set_size" else number - 1) if number else None
 
+    def part_name(self, key, name):
+        """The name of a part of a date's field: Chromium answers its own one twice, and on the bus has its own and the field's."""
+        half = name[: len(name) // 2]
+        for above in self.above_of(key, MOST_PARTS) if name and name == f"{half} {half}" else ():
+            if self.raw[above].get("role") in ("Date", "DateTime", "InputTime"):
+                return f"{half} {self.of(above, 'name', str, '')}".strip()
+        return name
+
     def legend(self, key):
         """The legend of a group, which Chromium names by it on the bus, and not in its answers."""
         below = self.shown(self.of(key, "children", list, [])) if self.element(key).get("tag") == "FIELDSET" else []
@@ -153,6 +179,9 @@ class Page:
             fields["number"] = thousandths(value)
             for name, field in (("valuemin", "min"), ("valuemax", "max")):
                 fields[field] = thousandths(properties.get(name))
+            if kind == "SpinButton" and self.element(key).get("tag") != "INPUT":
+                # (else its value would be the hint that is drawn in it)
+                fields["value"] = f"{value:g}"
         elif isinstance(value, str) and value and kind not in EDITS | {"Label"}:
             fields["value"] = value
 
@@ -207,7 +236,7 @@ class Page:
             fields["clips"] = self.element(key).get("clips") is True and kind not in EDITS
 
     def put_relations(self, key, fields):
-        for name, field in (("controls", "controls"), ("activedescendant", "active")):
+        for name, field in (("controls", "controls"), ("labelledby", "labelled"), ("activedescendant", "active")):
             others = self.properties(key).get(name)
             others = [self.by_element.get(other) for other in others if isinstance(other, int)] if isinstance(others, list) else []
             others = [other for other in others if other is not None]
@@ -225,10 +254,11 @@ class Page:
             text = live[0].encode("utf-16-le", "surrogatepass").decode("utf-16-le", "replace")
         if len(text) > LONGEST_TEXT:
             self.notes.note(f"a text beyond {LONGEST_TEXT} characters: left out", key)
+        breaks = self.breaks_of(key, text)
         if live and all(isinstance(at, int) and at >= 0 for at in live[1:3]):
             start, end = (from_utf16(text, at) for at in (live[2:0:-1] if live[3] == "backward" else live[1:3]))
-            fields["selection"] = selection_in(id, text, start, end)
-        runs = text_nodes(id, text)
+            fields["selection"] = selection_in(id, text, start, end, breaks)
+        runs = text_nodes(id, text, breaks)
         self.nodes.update(runs)
         return list(runs)
 
@@ -245,8 +275,58 @@ class Page:
             node.fields["bounds"] = edges(places[0][2]) if places else None
             self.nodes[run] = node
             found.append(run)
+            self.runs.setdefault(key, []).append((run, places[0][0] if places else at, value))
             at += len(value.encode("utf-16-le", "replace")) // 2
         return found
+
+
+    def texts_below(self, key, kinds=("StaticText",)):
+        """The texts that are drawn at a node or below it, but for the marks of lists."""
+        found, todo, seen = [], [key], set()
+        while todo:
+            one = todo.pop()
+            if one in seen:
+                continue
+            seen.add(one)
+            if self.raw[one].get("role") in kinds:
+                found.append(one)
+            elif self.raw[one].get("role") != "ListMarker":
+                todo += reversed(self.shown(self.of(one, "children", list, [])))
+        return found
+
+    def breaks_of(self, key, text):
+        """Where the lines of a field's text were wrapped: each piece of a text but the first begins a line, unless it is of spaces."""
+        found, whole = [], ""
+        for one in self.texts_below(key, ("StaticText", "LineBreak")):
+            for count, inner in enumerate(self.shown(self.of(one, "children", list, []))):
+                piece = self.of(inner, "name", str, "")
+                found += [len(whole)] if count and piece.strip() else []
+                whole += piece
+        return tuple(found) if whole == text else ()
+
+    def put_lines(self, key):
+        """In an editable part of the page: which runs are on one line, and the selection."""
+        texts = self.texts_below(key)
+        runs = [run for one in texts for run, _, _ in self.runs.get(one, [])]
+        for run, other in zip(runs, runs[1:]):
+            box, after = (self.nodes[it].fields.get("bounds") for it in (run, other))
+            if box and after and 2 * (min(box[3], after[3]) - max(box[1], after[1])) > after[3] - after[1] and after[0] >= box[2] - LEEWAY:
+                self.nodes[run].fields["next"], self.nodes[other].fields["prev"] = other, run
+        field = self.seen.field
+        if key == self.focused and isinstance(field, list) and len(field) == 4 and field[0] is None:
+            places = [self.place_of(texts, spot) for spot in field[1:3]]
+            self.nodes[id_of(key)].fields["selection"] = places if all(places) else None
+
+    def place_of(self, texts, spot):
+        """An end of a selection, by the number of its text and a place there, as a run and a character."""
+        is_right = isinstance(spot, list) and len(spot) == 2 and all(isinstance(one, int) and one >= 0 for one in spot)
+        if not is_right or spot[0] >= len(texts):
+            return None
+        before = [one for one in self.runs.get(texts[spot[0]], []) if one[1] <= spot[1]]
+        if not before:
+            return None
+        run, start, value = before[-1]
+        return run, pieces(value)[0].index(from_utf16(value, spot[1] - start))
 
 
 def edges(box):

@@ -48,12 +48,12 @@ class Piece(NamedTuple):
 
 
 @lru_cache(maxsize=500)
-def pieces(text):
-    """The lines of a text, each with its newline, and the long ones in pieces; the last one is empty after a newline."""
+def pieces(text, breaks=()):
+    """The lines of a text, each with its newline, and the long ones in pieces; the last one is empty after a newline. A line also ends
+    before each place of `breaks`, where it was wrapped."""
     found, start, text = [], 0, text[:LONGEST_TEXT]
-    lines = text.split("\n")
-    for count, line in enumerate(lines, 1):
-        line += "\n" if count < len(lines) else ""
+    ends = sorted({at for at in breaks if 0 < at < len(text)} | {at + 1 for at, one in enumerate(text) if one == "\n"})
+    for line in [text[one:other] for one, other in zip([0, *ends], [*ends, len(text)])]:
         parts, goes_on = characters(line), False
         while parts or not goes_on:
             some, parts = parts[:LONGEST_RUN], parts[LONGEST_RUN:]
@@ -74,9 +74,9 @@ def run_node(piece):
     return Node("TextRun", {"value": piece.text, "chars": lengths, "words": word_starts(piece.parts)}, [])
 
 
-def text_nodes(id, text):
+def text_nodes(id, text, breaks=()):
     """The runs of a node's text, by id, in order."""
-    found = pieces(text)
+    found = pieces(text, breaks)
     ids = run_ids(id, len(found))
     nodes = {run: run_node(piece) for run, piece in zip(ids, found)}
     for at, piece in enumerate(found):
@@ -86,9 +86,9 @@ def text_nodes(id, text):
     return nodes
 
 
-def place_in(id, text, at):
+def place_in(id, text, at, breaks=()):
     """A place in a node's text, as a run and a character; `None` beyond it."""
-    found = pieces(text)
+    found = pieces(text, breaks)
     ids = run_ids(id, len(found))
     for count, (run, piece) in enumerate(zip(ids, found), 1):
         end = piece.start + len(piece.text)
@@ -97,9 +97,9 @@ def place_in(id, text, at):
     return None
 
 
-def selection_in(id, text, start, end):
+def selection_in(id, text, start, end, breaks=()):
     """A selection in a node's text from one place to the other, which moves; `None` beyond it."""
-    places = place_in(id, text, start), place_in(id, text, end)
+    places = place_in(id, text, start, breaks), place_in(id, text, end, breaks)
     return places if all(places) else None
 
 
