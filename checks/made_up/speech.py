@@ -1,5 +1,5 @@
-"""Random windows whose changes are spoken: controls, fields with and without runs, carets that move, live regions, and a dialog that
-opens and closes."""
+"""Random windows whose changes are spoken: controls, fields with and without runs, carets that move, letters that are typed, live regions,
+landmarks, lists and items of trees in one another, and a dialog that opens and closes."""
 
 import re
 
@@ -9,11 +9,15 @@ WORDS = ["", "a", "ab", "abc", "b", "x y", "\u00e4\u00f6", "no \"end\"", "two"]
 CONTROLS = "Button DefaultButton Switch CheckBox RadioButton Slider Tab MenuItemCheckBox Link".split()
 FIELDS = "TextInput SearchInput PasswordInput SpinButton EditableComboBox".split()
 RUN_TEXTS = [*WORDS, "one two three", "a e\u0301 \U0001f44d"]
+LETTERS = ["a", "b", "a", "b", "e\u0301"]
 FLAGS = "disabled read_only required hidden busy".split()
-WINDOW, CONTROL, FIELD, TEXT, HINT, REGION, SAID, LIST, DIALOG, BUTTON, SECRET = range(11)
+PLACES = "Other(371) Other(346) Other(353) Other(321) Other(325) List ListBox TreeItem TreeItem GenericContainer".split()
+ITEMS = "Link ListItem ListItem ListBoxOption TreeItem Other(328)".split()
+WINDOW, CONTROL, FIELD, TEXT, HINT, REGION, SAID, LIST, DIALOG, BUTTON, SECRET, PLACE = range(12)
 RUNS = (30, 31, 32)
 OPTIONS = (40, 41, 42)
 REGION_RUN, SECRET_RUN = 50, 51
+NESTED, LEAVES = (PLACE, 61, 62, 63), (70, 71, 72, 73)
 
 
 def with_one_in(dice, bound, words):
@@ -45,13 +49,22 @@ def live(dice):
 
 
 def run_line(dice, number, is_last):
-    """A run, with a newline at its end where it isn't the last one, and often with the starts of words."""
-    text = dice.choice(RUN_TEXTS) + ("" if is_last or dice.one_in(3) else "\n")
+    """A run, with a newline at its end where it isn't the last one."""
+    return run_of(dice, number, dice.choice(RUN_TEXTS) + ("" if is_last or dice.one_in(3) else "\n"))
+
+
+def run_of(dice, number, text):
+    """A run of this text, often with the starts of its words."""
     characters = re.findall(".[\u0300-\u036f]*", text, re.DOTALL)
     lengths = ",".join(str(len(character.encode())) for character in characters)
     starts = ",".join(str(index) for index in range(len(characters)) if index == 0 or characters[index - 1] == " ")
     words = with_one_in(dice, 2, f"words={starts}") if text else []
     return " ".join([f"node {number} TextRun value={text_line(text)}", *([f"chars={lengths}"] if text else []), *words])
+
+
+def letters(dice):
+    """A few letters, of which many are alike."""
+    return [dice.choice(LETTERS) for _ in range(dice.randrange(6))]
 
 
 def place(dice, runs):
@@ -85,14 +98,30 @@ class Window:
         given = ["children=" + ",".join(map(str, self.runs))]
         return self.node(TEXT, self.text_role, given, selected, of_words(self.dice, "label"))
 
+    def lines_of_places(self):
+        """The lines of nodes in one another, each with an item before what is in it or behind that."""
+        dice = self.dice
+        for number, leaf, inner in zip(NESTED, LEAVES, (*NESTED[1:], None)):
+            inside = [str(one) for one in dice.choice([(leaf, inner), (inner, leaf)]) if one]
+            labels = of_words(dice, "label"), with_one_in(dice, 5, f"labelled={dice.choice([CONTROL, FIELD])}")
+            yield self.node(number, dice.choice(PLACES), ["children=" + ",".join(inside)], *labels, self.rank(), flags(dice))
+            yield self.node(leaf, dice.choice(ITEMS), of_words(dice, "label"), self.rank(), flags(dice))
+
+    def rank(self):
+        """The level, and the size of the set, each now and then."""
+        dice = self.dice
+        return with_one_in(dice, 6, f"level={dice.randrange(4)}") + with_one_in(dice, 6, f"set_size={dice.randrange(3)}")
+
     def lines_of(self, number):
         """The lines of a node, made up anew, with those of what stands in it."""
         dice = self.dice
         if number == WINDOW:
             self.has_dialog = dice.one_in(2)
-            shown = [CONTROL, FIELD, TEXT, HINT, REGION, LIST, *([DIALOG] if self.has_dialog else [])]
+            shown = [CONTROL, FIELD, TEXT, HINT, REGION, LIST, PLACE, *([DIALOG] if self.has_dialog else [])]
             dialog = self.lines_of(DIALOG) if self.has_dialog else []
             return [self.node(WINDOW, "Window", ["children=" + ",".join(map(str, shown))]), *dialog]
+        if number == PLACE:
+            return [*self.lines_of_places()]
         if number == TEXT:
             self.runs = RUNS[: dice.randrange(1, 4)]
             self.text_role = dice.choice(["MultilineTextInput", "TextInput"])
@@ -123,7 +152,7 @@ class Window:
 
     def any_focus(self):
         """A node that may have the focus."""
-        shown = [WINDOW, CONTROL, FIELD, FIELD, TEXT, TEXT, LIST, *OPTIONS]
+        shown = [WINDOW, CONTROL, FIELD, FIELD, TEXT, TEXT, LIST, *OPTIONS, *NESTED, *LEAVES]
         return self.dice.choice(shown + [DIALOG, BUTTON, SECRET, SECRET] * self.has_dialog)
 
 
@@ -131,6 +160,17 @@ def move_caret(maker, window):
     """The caret of the text moves, some times, and nothing else changes."""
     for _ in range(maker.dice.randrange(1, 4)):
         send(maker, [window.line_of_text(caret(maker.dice, window.runs))], TEXT)
+
+
+def type_letters(maker, window):
+    """In a text of few letters some are typed at once, now and then in place of those before them; the caret is behind what is typed."""
+    dice, window.runs = maker.dice, RUNS[:1]
+    before, after = letters(dice), letters(dice)
+    for _ in range(dice.randrange(2, 6)):
+        caret_there = f"selection={RUNS[0]}:{len(before)},{RUNS[0]}:{len(before)}"
+        send(maker, [window.line_of_text([caret_there]), run_of(dice, RUNS[0], "".join(before + after))], TEXT)
+        kept = dice.randrange(len(before) + 1) if dice.one_in(3) else len(before)
+        before = before[:kept] + letters(dice)
 
 
 def send(maker, lines, focus, head=""):
@@ -144,17 +184,19 @@ def make_speech(maker):
     dice, window = maker.dice, Window(maker.dice)
     if not dice.one_in(4):
         maker.say("host on")
-    lines = [line for number in (WINDOW, CONTROL, FIELD, TEXT, HINT, REGION, LIST) for line in window.lines_of(number)]
+    lines = [line for number in (WINDOW, CONTROL, FIELD, TEXT, HINT, REGION, LIST, PLACE) for line in window.lines_of(number)]
     focus = window.any_focus()
     send(maker, lines, focus, " root=0")
     for _ in range(dice.randrange(4, 16)):
         if dice.one_in(9):
             maker.set_host()
-        some = [number for number in (CONTROL, FIELD, FIELD, TEXT, TEXT, HINT, REGION, LIST) if dice.one_in(4)]
+        some = [number for number in (CONTROL, FIELD, FIELD, TEXT, TEXT, HINT, REGION, LIST, PLACE) if dice.one_in(4)]
         some += [WINDOW] if dice.one_in(4) else [SECRET] if window.has_dialog and dice.one_in(2) else []
         lines = [line for number in dict.fromkeys(some) for line in window.lines_of(number)]
         if dice.one_in(2) or focus in (DIALOG, BUTTON, SECRET):
             focus = window.any_focus()
         send(maker, lines, focus)
-        if focus == TEXT:
+        if focus == TEXT and dice.one_in(2):
+            type_letters(maker, window)
+        elif focus == TEXT:
             move_caret(maker, window)

@@ -1,5 +1,6 @@
 pub mod Differences
 pub mod Focus
+pub mod Laws
 pub mod News
 pub mod Numbers
 pub mod Quoted

@@ -1,12 +1,15 @@
 -- The lines of speech.
 use Rattle.std.specs.Prelude.{ℕ, List, ◌++◌, Bool, Option, Some, None, codes, option_copied, length, ◌==◌, if◌then◌else◌}
+use Rattle.std.specs.Fmt.{decimal}
 use Rattle.schema.specs.declared.values.Live.{Live}
 use Rattle.phrases.specs.declared.differences.Change.{Change}
 use Rattle.phrases.specs.declared.sayings.Dialog.{Dialog}
 use Rattle.phrases.specs.declared.sayings.Group.{Group}
+use Rattle.phrases.specs.declared.sayings.Landmark.{Landmark}
+use Rattle.phrases.specs.declared.sayings.Listing.{Listing}
 use Rattle.phrases.specs.declared.sayings.Saying.{Saying}
-use Rattle.phrases.specs.declared.sayings.Saying.TheVariants.{Focused, InDialog, InGroup, Told, Named, Valued, Described, Is, Changed, OnLine, AtCharacter, AtWord, Selected, Unselected}
-use Rattle.phrases.specs.Quoted.{quoted}
+use Rattle.phrases.specs.declared.sayings.Saying.TheVariants.{Focused, InDialog, InGroup, InList, InLandmark, Told, Named, Valued, Described, Is, Changed, OnLine, AtCharacter, AtWord, Selected, Unselected}
+use Rattle.phrases.specs.Quoted.{quoted, named}
 use Rattle.phrases.specs.Focus.{focus_text}
 use Rattle.phrases.specs.States.{after_comma, where_it_is, live_word}
 
@@ -29,6 +32,25 @@ group_line role label = role ++ codes ": " ++ quoted label ++ codes "\n"
 
 abbrev pub group_text : Group → List ℕ
 group_text g = g.role.now ++ codes ": " ++ quoted g.label.now
+
+-- how many items there are
+abbrev pub items_text : ℕ → List ℕ
+items_text n = if n == 1 then codes "1 item" else decimal n ++ codes " items"
+
+-- a list by its name, if it has one, and the number of its items
+abbrev pub listing_text : List ℕ → Option (List ℕ) → ℕ → List ℕ
+listing_text role None n = role ++ codes ": " ++ items_text n
+listing_text role (Some label) n = role ++ codes ": " ++ quoted label ++ codes ", " ++ items_text n
+
+abbrev pub listing_line : List ℕ → Option (List ℕ) → ℕ → List ℕ
+listing_line role label n = listing_text role label n ++ codes "\n"
+
+-- a landmark by its role, and its name, if it has one
+abbrev pub landmark_text : List ℕ → Option (List ℕ) → List ℕ
+landmark_text role label = codes "landmark: " ++ role ++ named label
+
+abbrev pub landmark_line : List ℕ → Option (List ℕ) → List ℕ
+landmark_line role label = landmark_text role label ++ codes "\n"
 
 -- what was removed, and what was typed
 abbrev pub change_text : Change → List ℕ
@@ -76,6 +98,8 @@ abbrev pub saying : Saying → List ℕ
 saying (Focused focus) = codes "focus: " ++ focus_text focus ++ codes "\n"
 saying (InDialog dialog) = dialog_text dialog ++ codes "\n"
 saying (InGroup group) = group_text group ++ codes "\n"
+saying (InList list) = listing_line list.role.now (option_copied list.label) list.items
+saying (InLandmark landmark) = landmark_line landmark.role.now (option_copied landmark.label)
 saying (Told live text) = live_line live text.now
 saying (Named label) = label_line label.now
 saying (Valued value) = value_line value.now

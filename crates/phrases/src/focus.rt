@@ -35,6 +35,23 @@ impl fmt::Display for AtPlace {
     }
 }
 
+/// A level in a hierarchy, after a comma, if there is one.
+#[derive(Clone, Copy)]
+struct AtLevel(Option<usize>);
+
+impl fmt::Display for AtLevel {
+    ghost use Rattle.phrases.specs.Focus.{level_text};
+
+    ghost output = { λ s. Some (level_text s.0) };
+
+    fn fmt<W: fmt::Write>(&self, f: &mut fmt::Formatter<W>) -> fmt::Result {
+        match self.0 {
+            Some(level) => write!(f, ", level {level}"),
+            None => Ok(()),
+        }
+    }
+}
+
 /// What is said of a focused node.
 #[derive(Clone, Copy)]
 pub struct Focus<'a> {
@@ -51,6 +68,8 @@ pub struct Focus<'a> {
     pub placeholder: Option<&'a str>,
     pub state: State,
     pub popup: Option<HasPopup>,
+    /// The level of a heading, or how deep an item is in a tree, from 1.
+    pub level: Option<usize>,
     pub place: Option<Place>,
     pub description: Option<&'a str>,
 }
@@ -95,11 +114,12 @@ impl fmt::Display for Focus<'_> {
         let texts = Texts(*self);
         let state = self.state;
         let popup = opening(self.popup);
+        let level = AtLevel(self.level);
         let place = AtPlace(self.place);
         let description = Part {
             what: "description",
             text: self.description,
         };
-        write!(f, "{texts}{state}{popup}{place}{description}")
+        write!(f, "{texts}{state}{popup}{level}{place}{description}")
     }
 }

@@ -6,6 +6,7 @@ mod again;
 mod differences;
 mod edits;
 mod focus;
+pub mod laws;
 mod numbers;
 mod quoted;
 mod roles;
@@ -20,7 +21,7 @@ pub use focus::{Focus, Place};
 pub use numbers::Thousandths;
 pub use quoted::Quoted;
 pub use roles::{role_word, toggling_of};
-pub use sayings::{Dialog, Group, Saying};
+pub use sayings::{Dialog, Group, Landmark, Listing, Saying};
 pub use states::{
     State, Toggling, expanded_change, expanded_word, flag_change, selected_change, selected_word,
     switched_word, toggled_change, where_it_is,

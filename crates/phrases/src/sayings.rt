@@ -3,7 +3,7 @@ ghost use Rattle.std.specs.Prelude.{Some, option_copied};
 
 use crate::differences::Change;
 use crate::focus::Focus;
-use crate::quoted::Quoted;
+use crate::quoted::{Named, Quoted};
 use crate::states::{flag, live_word};
 use schema::Live;
 use std::fmt;
@@ -83,6 +83,73 @@ impl fmt::Display for Group<'_> {
     }
 }
 
+/// How many items there are.
+#[derive(Clone, Copy)]
+struct Items(usize);
+
+impl fmt::Display for Items {
+    ghost use Rattle.phrases.specs.Sayings.{items_text};
+
+    ghost output = { λ s. Some (items_text s.0) };
+
+    fn fmt<W: fmt::Write>(&self, f: &mut fmt::Formatter<W>) -> fmt::Result {
+        let count = self.0;
+        if count == 1 {
+            return f.write_str("1 item");
+        }
+        write!(f, "{count} items")
+    }
+}
+
+/// What is said of a list.
+#[derive(Clone, Copy)]
+pub struct Listing<'a> {
+    /// The word for the role.
+    pub role: &'a str,
+    pub label: Option<&'a str>,
+    pub items: usize,
+}
+
+/// Prints, for example, `list box: "Fonts", 8 items`.
+impl fmt::Display for Listing<'_> {
+    ghost use Rattle.phrases.specs.Sayings.{listing_text};
+
+    ghost output = { λ s. Some (listing_text s.role.now (option_copied s.label) s.items) };
+
+    fn fmt<W: fmt::Write>(&self, f: &mut fmt::Formatter<W>) -> fmt::Result {
+        let role = self.role;
+        let items = Items(self.items);
+        match self.label {
+            Some(label) => {
+                let label = Quoted(label);
+                write!(f, "{role}: {label}, {items}")
+            }
+            None => write!(f, "{role}: {items}"),
+        }
+    }
+}
+
+/// What is said of a landmark.
+#[derive(Clone, Copy)]
+pub struct Landmark<'a> {
+    /// The word for the role.
+    pub role: &'a str,
+    pub label: Option<&'a str>,
+}
+
+/// Prints, for example, `landmark: navigation "Main"`.
+impl fmt::Display for Landmark<'_> {
+    ghost use Rattle.phrases.specs.Sayings.{landmark_text};
+
+    ghost output = { λ s. Some (landmark_text s.role.now (option_copied s.label)) };
+
+    fn fmt<W: fmt::Write>(&self, f: &mut fmt::Formatter<W>) -> fmt::Result {
+        let role = self.role;
+        let label = Named(self.label);
+        write!(f, "landmark: {role}{label}")
+    }
+}
+
 /// Prints, for example, `removed "a", typed "b"`.
 impl fmt::Display for Change<'_> {
     ghost use Rattle.phrases.specs.Sayings.{change_text};
@@ -111,6 +178,10 @@ pub enum Saying<'a> {
     InDialog(Dialog<'a>),
     /// The group that the focus has entered.
     InGroup(Group<'a>),
+    /// The list that the focus has entered.
+    InList(Listing<'a>),
+    /// The landmark that the focus has entered.
+    InLandmark(Landmark<'a>),
     /// A text of a live region.
     Told(Live, &'a str),
     /// The new label of the focused node.
@@ -145,6 +216,8 @@ impl fmt::Display for Saying<'_> {
             Saying::Focused(focus) => writeln!(f, "focus: {focus}"),
             Saying::InDialog(dialog) => writeln!(f, "{dialog}"),
             Saying::InGroup(group) => writeln!(f, "{group}"),
+            Saying::InList(list) => writeln!(f, "{list}"),
+            Saying::InLandmark(landmark) => writeln!(f, "{landmark}"),
             Saying::Told(live, text) => {
                 let live = live_word(live);
                 let text = Quoted(text);

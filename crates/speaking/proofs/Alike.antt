@@ -1,6 +1,7 @@
 -- In two worlds that differ in what is typed into a password alone, the same is said of each node, of the focus, and of each event.
-use Rattle.std.proofs.Common.{◌≡◌, ◌≢◌, ℕ, ◌⊎◌, inl, inr, Bool, true, false, not, ◌&&◌, ◌||◌, cond, List, [], ◌∷◌, map, Option, Some, None, find, unwrap_or, option_map, is_some, is_none, refl, sym, ap, subst, ◌∙◌, if◌then◌else◌}
-use Rattle.std.specs.Option.{option_map_or, option_or}
+use Rattle.std.proofs.Common.{◌≡◌, ◌≢◌, ℕ, ◌-◌, ◌^◌, ◌⊎◌, min, slice_get, inl, inr, Bool, true, false, not, ◌&&◌, ◌||◌, cond, List, [], ◌∷◌, map, Option, Some, None, find, unwrap_or, option_map, is_some, is_none, refl, sym, ap, subst, ◌∙◌, if◌then◌else◌}
+use Rattle.std.specs.Prelude.{count_by}
+use Rattle.std.specs.Option.{option_map_or, option_or, option_and_then}
 use Rattle.std.specs.List.{list_any}
 use Rattle.std.proofs.lemmas.Option.{same_Some}
 use Rattle.std.proofs.lemmas.Bool.{and_parts}
@@ -12,7 +13,8 @@ use Rattle.model.specs.declared.FullNodeId.{FullNodeId}
 use Rattle.model.specs.declared.filters.FilterResult.TheVariants.{Include, ExcludeNode, ExcludeSubtree}
 use Rattle.model.specs.Covers.{is_included}
 use Rattle.model.specs.Events.{seen_in}
-use Rattle.model.specs.Forest.{is_same}
+use Rattle.model.specs.Forest.{is_same, below}
+use Rattle.model.specs.Frontier.{frontier}
 use Rattle.model.specs.Filters.{is_hidden}
 use Rattle.model.specs.Focus.{IsEffectiveFocus, IsFocusedNode, Resolves}
 use Rattle.model.specs.Lists.{ancestors}
@@ -25,7 +27,7 @@ use Rattle.model.specs.World.{World, Place, HasData, data_of}
 use Rattle.model.proofs.Alike.Bare as bare
 use Rattle.model.proofs.Alike.Bare.{SameBare}
 use Rattle.model.proofs.Alike.Sets.{size_same, position_same}
-use Rattle.model.proofs.Text.Outlines.{says_same, given_same, inherited_same, above_is, reads_or}
+use Rattle.model.proofs.Text.Outlines.{IsBlind, says_same, given_same, inherited_same, above_is, below_is, reads_or}
 use Rattle.views.proofs.Climbing.{rest_above}
 use Rattle.hidden_texts.specs.Alike.{DifferInPassword}
 use Rattle.hidden_texts.specs.Hidden.{is_in_password, hides_text}
@@ -35,18 +37,21 @@ use Rattle.phrases.specs.declared.focus.Focus.{Focus}
 use Rattle.phrases.specs.declared.sayings.Dialog.{Dialog}
 use Rattle.phrases.specs.News.{news}
 use Rattle.phrases.specs.Roles.{role_word}
-use Rattle.phrases.specs.Sayings.{label_line, value_line, description_line, group_line}
-use Rattle.phrases.specs.Voices.{Speech}
+use Rattle.phrases.specs.Sayings.{label_line, value_line, description_line, group_line, landmark_line, listing_line}
+use Rattle.phrases.specs.Voices.{Speech, said_later}
 use Rattle.speaking.specs.Changes.{label_said, toggles_said, flags_said, change_said, SaysChange}
-use Rattle.speaking.specs.Dialogs.{WasInside, WasOutside, Enters, ShowsDialog, SaysDialog, SaysEntered, SaysFocus, SaysMoved}
+use Rattle.speaking.specs.Dialogs.{WasInside, WasOutside, Enters, ShowsDialog, SaysDialog, SaysEntered, SaysFocus, SaysMoved, around_said}
 use Rattle.speaking.specs.Events.{SaysAdded, SaysUpdated}
 use Rattle.speaking.specs.Said.{said_if}
-use Rattle.speaking.specs.Groups.{is_group, group_around, was_in_group, group_named, group_said}
+use Rattle.speaking.specs.Around.{around, was_in, entered_said}
+use Rattle.speaking.specs.Groups.{is_group, role_word_at, group_named, group_said}
 use Rattle.speaking.specs.Headers.{column_header, row_header, was_header, header_said, headers_said}
 use Rattle.speaking.specs.Laws.{AreAlike, added, updated, moved, removed, BeginsAlike, SaysAlike}
 use Rattle.speaking.specs.declared.news.News.{News}
 use Rattle.speaking.specs.Above.{above_of, region_of}
 use Rattle.speaking.specs.Holders.{speaks_for_runs, holder_answer, speaks_itself}
+use Rattle.speaking.specs.Landmarks.{is_landmark, landmark_named, landmark_said, is_list, items_of, list_named, list_said}
+use Rattle.speaking.specs.Levels.{is_tree_item, depth_in_tree, level_said}
 use Rattle.speaking.specs.Lines.{caret_said}
 use Rattle.speaking.specs.LiveTexts.{is_live, is_told, own_text, unless_blank, told_text, TellsNew, TellsChange}
 use Rattle.speaking.specs.News.{Notes}
@@ -104,6 +109,11 @@ module _ (p : FullNodeId) (w v : World) (alike : AreAlike p w v) where
       one_of p w v alike (λ u. computed_position_in_set (listed_answer u) u id)
       (λ u. position_same u (listed_answer (outline u)) id ∙ (λ i. computed_position_in_set (listed_same u i) u id))
 
+  depth_is : (id : FullNodeId) → depth_in_tree w id ≡ depth_in_tree v id
+  depth_is id =
+      one_of p w v alike (λ u. depth_in_tree u id)
+      (λ u i. min (count_by (says_same u is_tree_item (λ d. refl) i) (id ∷ map (λ (q : Place). q.0) (above_is u i id))) (2 ^ 64 - 1))
+
   place_is : (id : FullNodeId) → place_said w id ≡ place_said v id
   place_is id i = place_from (size_is id i) (position_is id i)
 
@@ -135,6 +145,9 @@ module _ (p : FullNodeId) (w v : World) (alike : AreAlike p w v) where
         let carets : caret_said w id ≡ caret_said v id = caret_is p w v alike id (open_text e') in
         λ i. edited_is i && (is_multiline (s i).role && is_some (carets i))
 
+    level_is : level_said w id d ≡ level_said v id e
+    level_is i = option_or (s i).level (if is_tree_item (s i) then Some (depth_is id i) else None)
+
     by_line_is : is_said_by_line w id d ≡ is_said_by_line v id e
     by_line_is = by_line (is_edited w id d) refl
 
@@ -148,6 +161,7 @@ module _ (p : FullNodeId) (w v : World) (alike : AreAlike p w v) where
       placeholder = h.placeholder ∙ (λ i. instead (value_is i) (news None (hint_is id i)));
       state = h.state ∙ ap state_said s;
       popup = h.popup ∙ ap (λ (x : NodeData). x.has_popup) s;
+      level = h.level ∙ level_is;
       place = h.place ∙ place_is id;
       description = h.description ∙ ap (news None) description_is;
     }
@@ -234,18 +248,34 @@ module _ (p : FullNodeId) (w v : World) (alike : AreAlike p w v) where
             (subst (λ r. Notes id r (news None (told_text (above_of w id) h.node)) m n) (region_is id) h.notes);
       }
 
-  -- ---- groups
+  -- ---- what is around a node
 
-  pub group_is : (id : FullNodeId) → group_around w id ≡ group_around v id
-  group_is id =
-      one_of p w v alike (λ u. group_around u id)
-      (λ u i. find (λ a. is_included (if says_same u (λ d. is_group d.role) (λ d. refl) i a then Include else ExcludeNode)) (map (λ (q : Place). q.0) (above_is u i id)))
+  pub around_is : (kind : NodeData → Bool) → IsBlind kind → (id : FullNodeId) → around kind w id ≡ around kind v id
+  around_is kind blind id =
+      one_of p w v alike (λ u. around kind u id)
+      (λ u i. find (λ a. is_included (if says_same u kind blind i a then Include else ExcludeNode)) (map (λ (q : Place). q.0) (above_is u i id)))
 
-  word_is : (group : FullNodeId) → option_map_or (λ (d : NodeData). role_word d.role) (data_of w group) [] ≡ option_map_or (λ (d : NodeData). role_word d.role) (data_of v group) []
-  word_is group = one_of p w v alike (λ u. option_map_or (λ (d : NodeData). role_word d.role) (data_of u group) []) (λ u. reads_or (λ d. role_word d.role) [] u group (λ d. refl))
+  word_is : (group : FullNodeId) → role_word_at w group ≡ role_word_at v group
+  word_is group = one_of p w v alike (λ u. role_word_at u group) (λ u. reads_or (λ d. role_word d.role) [] u group (λ d. refl))
 
   pub group_named_is : (group : FullNodeId) (x : Speech) → group_named w group x ≡ group_named v group x
   group_named_is group x i = said_if (group_line (word_is group i)) (news None (label_shown p w v alike.formed typed group i)) x
+
+  pub landmark_named_is : (id : FullNodeId) (x : Speech) → landmark_named w id x ≡ landmark_named v id x
+  landmark_named_is id x i = said_later x (landmark_line (word_is id i) (news None (label_shown p w v alike.formed typed id i)))
+
+  listed_one : listed_answer w ≡ listed_answer v
+  listed_one = one_of p w v alike listed_answer listed_same
+
+  belows_one : below w ≡ below v
+  belows_one = one_of p w v alike below below_is
+
+  items_is : (list : FullNodeId) → items_of w list ≡ items_of v list
+  items_is list i = option_and_then (λ first. size_is first i) (slice_get (frontier (listed_one i) (belows_one i list)) 0)
+
+  pub list_named_is : (id : FullNodeId) (x : Speech) → list_named w id x ≡ list_named v id x
+  list_named_is id x i =
+      option_map_or (λ n. said_later x (listing_line (word_is id i) (news None (label_shown p w v alike.formed typed id i)) n)) (items_is id i) x
 
   -- ---- the focus
 
@@ -283,14 +313,15 @@ enters o q w v old new from id None (inr h) = inr (h.0, bare.active_dialog new (
     by_reason (inl itself) = inl itself
     by_reason (inr inside) = inr (was_inside o q old from h.0 inside)
 
-was_in_one : (p : FullNodeId) (o q : World) → AreAlike p o q → (from : Option FullNodeId) (group : FullNodeId) → was_in_group (option_map (seen_in o) from) group ≡ was_in_group (option_map (seen_in q) from) group
+was_in_one : (p : FullNodeId) (o q : World) → AreAlike p o q → (from : Option FullNodeId) (group : FullNodeId) → was_in (option_map (seen_in o) from) group ≡ was_in (option_map (seen_in q) from) group
 was_in_one p o q alike None group = refl
 was_in_one p o q alike (Some id) group = one_of p o q alike (λ u. is_within u group id) (λ u i. list_any (is_same group) (id ∷ map (λ (q : Place). q.0) (above_is u i id)))
 
-group_one : (p : FullNodeId) (o q w v : World) → AreAlike p o q → AreAlike p w v → (from : Option FullNodeId) (id : FullNodeId) (x : Speech) →
-    group_said (option_map (seen_in o) from) (seen_in w id) x ≡ group_said (option_map (seen_in q) from) (seen_in v id) x
-group_one p o q w v old new from id x i =
-    option_map_or (λ group. if was_in_one p o q old from group i then x else group_named_is p w v new group x i) (group_is p w v new id i) x
+module _ (kind : NodeData → Bool) (blind : IsBlind kind) (line : World → FullNodeId → Speech → Speech) (one : (p : FullNodeId) (w v : World) → AreAlike p w v → (id : FullNodeId) (x : Speech) → line w id x ≡ line v id x) where
+  entered_one : (p : FullNodeId) (o q w v : World) → AreAlike p o q → AreAlike p w v → (from : Option FullNodeId) (id : FullNodeId) (x : Speech) →
+      entered_said kind line (option_map (seen_in o) from) (seen_in w id) x ≡ entered_said kind line (option_map (seen_in q) from) (seen_in v id) x
+  entered_one p o q w v old new from id x i =
+      option_map_or (λ top. if was_in_one p o q old from top i then x else one p w v new top x i) (around_is p w v new kind blind id i) x
 
 module _ (header : World → FullNodeId → Option FullNodeId) (one : (p : FullNodeId) (w v : World) → AreAlike p w v → (id : FullNodeId) → header w id ≡ header v id) where
   was_header_one : (p : FullNodeId) (o q : World) → AreAlike p o q → (from : Option FullNodeId) (h : FullNodeId) → was_header header (option_map (seen_in o) from) h ≡ was_header header (option_map (seen_in q) from) h
@@ -308,6 +339,14 @@ headers_one p o q w v old new from id x =
     header_one column_header column_is p o q w v old new from id (header_said row_header (option_map (seen_in o) from) (seen_in w id) x)
     ∙ ap (header_said column_header (option_map (seen_in q) from) (seen_in v id)) (header_one row_header row_is p o q w v old new from id x)
 
+around_one : (p : FullNodeId) (o q w v : World) → AreAlike p o q → AreAlike p w v → (from : Option FullNodeId) (id : FullNodeId) (x : Speech) →
+    around_said (option_map (seen_in o) from) (seen_in w id) x ≡ around_said (option_map (seen_in q) from) (seen_in v id) x
+around_one p o q w v old new from id x i =
+    let landmarks : Speech = entered_one is_landmark (λ d. refl) landmark_named landmark_named_is p o q w v old new from id x i in
+    let groups : Speech = entered_one is_group (λ d. refl) group_named group_named_is p o q w v old new from id landmarks i in
+    let lists : Speech = entered_one is_list (λ d. refl) list_named list_named_is p o q w v old new from id groups i in
+    headers_one p o q w v old new from id lists i
+
 says_moved : (p : FullNodeId) (o q w v : World) → AreAlike p o q → AreAlike p w v → (from to : Option FullNodeId) (x y : Speech) →
     SaysMoved (option_map (seen_in o) from) (option_map (seen_in w) to) x y → SaysMoved (option_map (seen_in q) from) (option_map (seen_in v) to) x y
 says_moved p o q w v old new from None x y h = h
@@ -317,9 +356,8 @@ says_moved p o q w v old new from (Some id) x y h = record {
   between = h.between;
   dialog = says_entered p w v new h.entered x h.between h.dialog;
   focus =
-      let grouped = group_said (option_map (seen_in o) from) (seen_in w id) h.between in
-      subst (λ x. SaysFocus (seen_in v id) x y) (headers_one p o q w v old new from id grouped ∙ ap (headers_said (option_map (seen_in q) from) (seen_in v id)) (group_one p o q w v old new from id h.between))
-      (says_focus p w v new id (headers_said (option_map (seen_in o) from) (seen_in w id) grouped) y h.focus);
+      subst (λ x. SaysFocus (seen_in v id) x y) (around_one p o q w v old new from id h.between)
+      (says_focus p w v new id (around_said (option_map (seen_in o) from) (seen_in w id) h.between) y h.focus);
 }
 
 pub begins_alike : BeginsAlike

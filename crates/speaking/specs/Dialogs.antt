@@ -1,4 +1,4 @@
--- What is said of a moved focus: the dialog and the group that it enters, the headers of its cell, and the node.
+-- What is said of a moved focus: the dialog, the landmark, the group and the list that it enters, the headers of its cell, and the node.
 use Rattle.std.specs.Prelude.{◌≡◌, ◌≢◌, ⊤, ◌⊎◌, Option, Some, None, option_copied}
 use Rattle.schema.specs.NodeData.{NodeData}
 use Rattle.model.specs.declared.FullNodeId.{FullNodeId}
@@ -16,6 +16,7 @@ use Rattle.phrases.specs.Sayings.{saying}
 use Rattle.phrases.specs.Voices.{Speech, said_later}
 use Rattle.speaking.specs.Groups.{group_said}
 use Rattle.speaking.specs.Headers.{headers_said}
+use Rattle.speaking.specs.Landmarks.{landmark_said, list_said}
 use Rattle.speaking.specs.NodeTexts.{ShowsFocus}
 
 -- the old focus was in the dialog
@@ -61,13 +62,17 @@ abbrev pub SaysEntered : World → Option FullNodeId → Speech → Speech → T
 SaysEntered w None v u = u ≡ v
 SaysEntered w (Some dialog) v u = SaysDialog w dialog v u
 
--- the dialog first, then the group, the headers, and then the focus
+-- what is around the focus: the landmark, the group, the list, and then the headers
+abbrev pub around_said : Option Seen → Seen → Speech → Speech
+around_said old new v = headers_said old new (list_said old new (group_said old new (landmark_said old new v)))
+
+-- the dialog first, then what is around the focus, and then the focus
 pub record SaysMove (old : Option Seen) (new : Seen) (v u : Speech) : Type 0 where
   pub entered : Option FullNodeId
   pub enters : Enters old new entered
   pub between : Speech
   pub dialog : SaysEntered new.world entered v between
-  pub focus : SaysFocus new (headers_said old new (group_said old new between)) u
+  pub focus : SaysFocus new (around_said old new between) u
 
 -- nothing is said if there is no focus any more
 abbrev pub SaysMoved : Option Seen → Option Seen → Speech → Speech → Type 0

@@ -1,4 +1,5 @@
 pub mod Above
+pub mod Around
 pub mod Carets
 pub mod Changes
 pub mod Dialogs
@@ -7,7 +8,9 @@ pub mod Events
 pub mod Groups
 pub mod Headers
 pub mod Holders
+pub mod Landmarks
 pub mod Laws
+pub mod Levels
 pub mod Lines
 pub mod LiveTexts
 pub mod News

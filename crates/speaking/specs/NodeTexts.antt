@@ -17,6 +17,7 @@ use Rattle.phrases.specs.declared.states.State.{State}
 use Rattle.phrases.specs.News.{news}
 use Rattle.phrases.specs.Numbers.{thousandths}
 use Rattle.phrases.specs.Roles.{role_word, toggling_of}
+use Rattle.speaking.specs.Levels.{level_said}
 use Rattle.speaking.specs.Lines.{caret_said}
 
 -- a text, unless it is empty
@@ -91,5 +92,6 @@ pub record ShowsFocus (w : World) (id : FullNodeId) (d : NodeData) (f : Focus) :
   pub placeholder : option_copied f.placeholder ≡ instead (value_said w id d) (news None (placeholder_said w id))
   pub state : f.state ≡ state_said d
   pub popup : f.popup ≡ d.has_popup
+  pub level : f.level ≡ level_said w id d
   pub place : f.place ≡ place_said w id
   pub description : option_copied f.description ≡ news None (description_said w id d)

@@ -1,15 +1,14 @@
-//! Speech for a moved focus: the dialog and the group that it enters, the headers of its cell, and the node.
+//! Speech for a moved focus: the dialog, the landmark, the group and the list that it enters, the headers of its cell, and the node.
 ghost use Rattle.std.specs.Prelude.{◌≡◌, true, false, IfSome, OnOk, option_map, option_copied};
 ghost use Rattle.model.specs.Focus.{IsActiveDialog};
 ghost use Rattle.hidden_texts.specs.Shown.{shown_label};
 ghost use Rattle.views.specs.Nodes.{world_at, id_at, data_at, seen_node, seen_through};
-ghost use Rattle.speaking.specs.Groups.{group_said};
-ghost use Rattle.speaking.specs.Headers.{headers_said};
-ghost use Rattle.speaking.specs.Dialogs.{WasInside, WasOutside, Enters, ShowsDialog, SaysDialog, SaysEntered, SaysMove, SaysMoved};
+ghost use Rattle.speaking.specs.Dialogs.{WasInside, WasOutside, Enters, ShowsDialog, SaysDialog, SaysEntered, SaysMove, SaysMoved, around_said};
 
 use crate::focus::say_focus;
 use crate::groups::say_group;
 use crate::headers::say_headers;
+use crate::landmarks::{say_landmark, say_list};
 use accesskit_consumer::{FullNodeId, NodeRef};
 use hidden_texts::{hides_label, shown_label};
 use model::is_same;
@@ -93,7 +92,7 @@ fn say_entered(
     }
 }
 
-/// Says the group that the new focus has entered, and the headers of its cell.
+/// Says the landmark, the group and the list that the new focus has entered, and the headers of its cell.
 fn say_around(
     alloc: Global,
     voice: &mut Voice,
@@ -101,13 +100,15 @@ fn say_around(
     new: NodeRef,
 ) -> Result<(), AllocError>
     ensures { let o = seen_through old.entry in let n = seen_node new.entry in
-        OnOk result (voice.new ≡ headers_said o n (group_said o n voice.old)) }
+        OnOk result (voice.new ≡ around_said o n voice.old) }
 {
+    say_landmark(alloc, voice, old, new)?;
     say_group(alloc, voice, old, new)?;
+    say_list(alloc, voice, old, new)?;
     say_headers(alloc, voice, old, new)
 }
 
-/// Says the new focus: the dialog and the group that it has entered, the headers of its cell, and the node.
+/// Says the new focus: the dialog that it has entered, what is around it, and the node.
 fn say_come(
     alloc: Global,
     voice: &mut Voice,

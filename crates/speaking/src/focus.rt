@@ -6,6 +6,7 @@ ghost use Rattle.views.specs.Nodes.{world_at, id_at, data_at, seen_node};
 ghost use Rattle.speaking.specs.Dialogs.{SaysFocus};
 ghost use Rattle.speaking.specs.NodeTexts.{instead, value_said, placeholder_said, is_said_by_line, ShowsFocus};
 
+use crate::levels::level_of;
 use crate::reading::{
     description_said, is_said_by_line, place_of, placeholder_said, state_of, value_said,
 };
@@ -71,6 +72,7 @@ fn focus_of<'a>(node: NodeRef<'a>, texts: &'a Texts) -> Focus<'a>
         placeholder: placeholder_of(node, texts),
         state: state_of(node),
         popup: node.has_popup(),
+        level: level_of(node),
         place: place_of(node),
         description: news(None, description_said(node)),
     }

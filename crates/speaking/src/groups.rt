@@ -1,7 +1,8 @@
 //! Speech for a group that the focus enters.
 ghost use Rattle.std.specs.Prelude.{◌≡◌, IfSome, OnOk, option_map};
 ghost use Rattle.views.specs.Nodes.{world_at, id_at, data_at, seen_node, seen_through};
-ghost use Rattle.speaking.specs.Groups.{is_group_word, is_group, group_answer, group_around, was_in_group, group_named, group_said};
+ghost use Rattle.speaking.specs.Around.{around, around_answer, was_in};
+ghost use Rattle.speaking.specs.Groups.{is_group_word, is_group, group_named, group_said};
 
 use accesskit_consumer::NodeRef;
 use accesskit_consumer::filters::FilterResult;
@@ -19,14 +20,14 @@ fn is_group_word(word: &str) -> bool
 
 /// Whether the node is a group, a radio group or a frame. A container isn't.
 fn is_group(node: &NodeRef) -> bool
-    ensures { result ≡ is_group (data_at node.now).role }
+    ensures { result ≡ is_group (data_at node.now) }
 {
     node.role() != Role::GenericContainer && is_group_word(role_word(node.role()))
 }
 
 /// The filter that includes groups.
 fn groups(node: &NodeRef<'_>) -> FilterResult
-    ensures { result ≡ group_answer (world_at node.now) (id_at node.now) }
+    ensures { result ≡ around_answer is_group (world_at node.now) (id_at node.now) }
 {
     if is_group(node) {
         FilterResult::Include
@@ -38,17 +39,17 @@ fn groups(node: &NodeRef<'_>) -> FilterResult
 /// The nearest group above a node.
 fn group_around<'a>(node: NodeRef<'a>) -> Option<NodeRef<'a>>
     ensures world { IfSome result (λ group. world_at group ≡ world_at node.entry) }
-    ensures group { option_map id_at result ≡ group_around (world_at node.entry) (id_at node.entry) }
+    ensures group { option_map id_at result ≡ around is_group (world_at node.entry) (id_at node.entry) }
 {
     node.filtered_parent(&groups)
 }
 
-/// Whether the old focus was this group, or in it.
-fn was_in_group(old: Option<&NodeRef<'_>>, group: NodeRef) -> bool
-    ensures { result ≡ was_in_group (seen_through old.entry) (id_at group.entry) }
+/// Whether the old focus was this node, or in it.
+pub(crate) fn was_in(old: Option<&NodeRef<'_>>, top: NodeRef) -> bool
+    ensures { result ≡ was_in (seen_through old.entry) (id_at top.entry) }
 {
     match old {
-        Some(node) => node.is_descendant_of(&group),
+        Some(node) => node.is_descendant_of(&top),
         None => false,
     }
 }
@@ -81,7 +82,7 @@ pub(crate) fn say_group(
     let Some(group) = group_around(new) else {
         return Ok(());
     };
-    if was_in_group(old, group) {
+    if was_in(old, group) {
         return Ok(());
     }
     say_named(alloc, voice, group)

@@ -102,7 +102,7 @@ fn is_transparent(node: &NodeRef) -> bool
 }
 
 /// The filter that includes what isn't hidden, scrolled out or not, and passes through grafts, containers and runs.
-fn listed(node: &NodeRef<'_>) -> FilterResult
+pub(crate) fn listed(node: &NodeRef<'_>) -> FilterResult
     ensures { result ≡ listed_answer (world_at node.now) (id_at node.now) }
 {
     if node.is_hidden() {
@@ -115,7 +115,7 @@ fn listed(node: &NodeRef<'_>) -> FilterResult
 }
 
 /// The size of the node's set, with what is scrolled out.
-fn set_size(node: NodeRef) -> Option<usize>
+pub(crate) fn set_size(node: NodeRef) -> Option<usize>
     ensures { let w = world_at node.entry in result ≡ size_of (listed_answer w) w (id_at node.entry) }
 {
     node.computed_size_of_set(&listed)
