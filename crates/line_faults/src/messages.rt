@@ -13,7 +13,7 @@ use std::io::{self, Write};
 
 /// Writes the fault of the line with this number, counted from 1: the line, the column in characters from 1, the reason,
 /// the word at fault, and the nearest right word if one is near; of a role that is sent by a number, how a script writes it.
-/// Control characters of the word are written as question marks; a word of more than 200 bytes isn't written.
+/// Control characters and byte order marks of the word are written by name; a word of more than 200 bytes isn't written.
 ///
 /// The line is given without its line end.
 pub fn write_fault<O: Write>(

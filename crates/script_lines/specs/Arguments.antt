@@ -86,3 +86,12 @@ Answers reads manual words result out out' err err' =
     (λ asked. (asked.0 ≡ given.0) × ReadsWords reads (options manual) given.1 (Ok asked.1) × (out' ≡ out) × (err' ≡ err))
     (λ status. (error : ArgumentError) × ReadsWords reads (options manual) given.1 (Err error)
     × TellsError manual error out out' err err' status)
+
+-- whether this option, if there is one, is the first of the words; and what is answered to the others
+abbrev pub AnswersAfter : {A : Type 0} → (List (List ℕ) → Result A ArgumentError → Type 0) → Option (List ℕ) → Manual → List (List ℕ)
+    → Result (Bool × (Bool × A)) ℕ → Bytes → Bytes → Bytes → Bytes → Type 0
+AnswersAfter reads option manual words result out out' err err' =
+    let given = after_option option words in
+    MatchResult result
+    (λ run. (run.0 ≡ given.0) × Answers reads manual given.1 (Ok run.1) out out' err err')
+    (λ status. Answers reads manual given.1 (Err status) out out' err err')

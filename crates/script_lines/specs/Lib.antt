@@ -3,6 +3,8 @@ pub mod Questions
 pub mod ArgumentErrors
 pub mod Arguments
 pub mod Ends
+pub mod Failures
+pub mod Strictness
 pub mod LineReading
 pub mod QuestionMeaning
 pub mod LineMeaning

@@ -4,7 +4,7 @@ ghost use Rattle.std.specs.Prelude.{◌≡◌, ◌≤◌, ◌≢◌, ℕ, IfErr,
 ghost use Rattle.std.specs.Io.KnownBytes.{Appends};
 ghost use Rattle.std.specs.String.{string_bytes};
 ghost use Rattle.script_lines.specs.ArgumentErrors.{ReadsNone, ReadsWords};
-ghost use Rattle.script_lines.specs.Arguments.{after_option, options, Answers, TellsError, call_text, error_text, hint_text, kind_text, manual_text, near_text, unknown_text, usage_text, wrong_text};
+ghost use Rattle.script_lines.specs.Arguments.{after_option, options, Answers, AnswersAfter, TellsError, call_text, error_text, hint_text, kind_text, manual_text, near_text, unknown_text, usage_text, wrong_text};
 ghost use Rattle.script_lines.specs.Ends.{Tells};
 ghost use Rattle.version.specs.Version.{version_line};
 ghost use Rattle.script_lines.specs.declared.argument_errors.ArgumentError.{ArgumentError as AnError};
@@ -13,8 +13,11 @@ use crate::argument_errors::{
     ArgumentError, ArgumentKind, UnknownWord, is_option, miscounted, no_option,
 };
 use crate::ends::{BAD_LINE, DONE, FAULT, tell_no_memory};
+use crate::failures::{failure_among, tell_failure};
+use crate::streams::{Output, SharedOutput};
 use line_text::write_shown;
 use std::alloc::Global;
+use std::cell::RefCell;
 use std::env;
 use std::io::{self, ErrorKind, IsTerminal, Write};
 use version::write_version;
@@ -62,9 +65,13 @@ impl Arguments for NoArguments {
     }
 }
 
+/// The option of each program that reports refused updates.
+const STRICT: &str = "--strict";
+
 /// Reads the program's arguments: whether the option that its manual names is the first of them, and the meaning of the other words. If
 /// `--help` comes first, its manual is printed on standard output, and for `--version` its version. Wrong arguments are reported on
-/// standard error, with the usage. If the script would have to be typed, that is said on standard error too.
+/// standard error, with the usage. If the script would have to be typed, that is said on standard error too, and if the manual or the
+/// version can't be printed, why, unless the reader of the output has closed its pipe.
 ///
 /// # Errors
 ///
@@ -73,13 +80,57 @@ impl Arguments for NoArguments {
 pub fn read_arguments<A: Arguments>(rt: &HostRuntime, manual: &Manual) -> Result<(bool, A), u8>
     ensures { IfErr result (λ status. (status ≤ 4) × (status ≢ 1)) }
 {
-    let mut output = io::writer(rt);
+    let (_, asked) = read_after(rt, None, manual)?;
+    Ok(asked)
+}
+
+/// Reads the arguments of a program that reports refused updates: whether they begin with `--strict`, and the others as
+/// [`read_arguments`] does.
+///
+/// # Errors
+///
+/// Returns the exit status if the program is not to run, as [`read_arguments`] does.
+pub fn read_run<A: Arguments>(rt: &HostRuntime, manual: &Manual) -> Result<(bool, (bool, A)), u8>
+    ensures { IfErr result (λ status. (status ≤ 4) × (status ≢ 1)) }
+{
+    read_after(rt, Some(STRICT), manual)
+}
+
+/// Reads the program's arguments: whether they begin with this option, if there is one, and the others as [`read_arguments`] does.
+fn read_after<A: Arguments>(
+    rt: &HostRuntime,
+    option: Option<&str>,
+    manual: &Manual,
+) -> Result<(bool, (bool, A)), u8>
+    ensures { IfErr result (λ status. (status ≤ 4) × (status ≢ 1)) }
+{
+    let Ok(output) = Output::new(rt.alloc(), io::writer(rt)) else {
+        return Err(tell_no_memory(&mut rt.stderr()));
+    };
+    let output = RefCell::new(output);
+    let asked = answer_arguments(rt, option, manual, &output);
+    let unwritten = output.into_inner().discard();
+    let _ = tell_failure(failure_among(None, unwritten), &mut rt.stderr());
+    asked
+}
+
+/// Reads the program's arguments as [`read_after`] does, and prints on this output.
+fn answer_arguments<A: Arguments, W: Write + Drop>(
+    rt: &HostRuntime,
+    option: Option<&str>,
+    manual: &Manual,
+    output: &RefCell<Output<W>>,
+) -> Result<(bool, (bool, A)), u8>
+    ensures { IfErr result (λ status. (status ≤ 4) × (status ≢ 1)) }
+{
+    let mut output = SharedOutput::new(output);
     let mut errors = rt.stderr();
     let words = match words_given(rt) {
         Ok(words) => words,
         Err(error) => return Err(tell_error(&error, manual, &mut output, &mut errors)),
     };
-    let asked = answer_words(rt.alloc(), &words, manual, &mut output, &mut errors)?;
+    let alloc = rt.alloc();
+    let asked = answer_after(alloc, option, &words, manual, &mut output, &mut errors)?;
     note_terminal(rt, &mut errors)?;
     Ok(asked)
 }
@@ -114,6 +165,30 @@ fn note_terminal<E: Write>(rt: &HostRuntime, errors: &mut E) -> Result<(), u8>
 /// Writes that the script is read from a terminal: a file's name may have been taken for a label.
 fn write_terminal<E: Write>(errors: &mut E) -> io::Result<()> {
     errors.write_all(b"the script is read from this terminal; Ctrl-D ends it\n")
+}
+
+/// Whether the words begin with this option, if there is one, and what is answered to the others, as [`answer_words`] does.
+///
+/// # Errors
+///
+/// Returns the exit status if the program is not to run.
+fn answer_after<A: Arguments, O: Write, E: Write>(
+    alloc: Global,
+    option: Option<&str>,
+    words: &[String],
+    manual: &Manual,
+    output: &mut O,
+    errors: &mut E,
+) -> Result<(bool, (bool, A)), u8>
+    ensures bound { IfErr result (λ status. (status ≤ 4) × (status ≢ 1)) }
+    ensures answers { AnswersAfter A.reads (option_copied option.entry) manual.now (map string_bytes words.now) result
+        (O.contents output.old) (O.contents output.new) (E.contents errors.old) (E.contents errors.new) }
+{
+    let (is_first, others) = after_option(option, words);
+    match answer_words(alloc, others, manual, output, errors) {
+        Ok(asked) => Ok((is_first, asked)),
+        Err(status) => Err(status),
+    }
 }
 
 /// Whether a program's option is the first of its words, and the meaning of the others. If the program is not to run, its manual or
@@ -269,8 +344,8 @@ fn write_error<E: Write>(error: &ArgumentError, errors: &mut E) -> io::Result<()
     }
 }
 
-/// Writes that there is no such word of its kind, and the one that may be meant, if there is one. Control characters of the word are
-/// written as question marks.
+/// Writes that there is no such word of its kind, and the one that may be meant, if there is one. A control character of the
+/// word is written by its name.
 fn write_unknown<E: Write>(unknown: &UnknownWord, errors: &mut E) -> io::Result<()>
     ensures { OnOk result (Appends (E.contents errors.old) (E.contents errors.new) (unknown_text unknown.now)) }
 {

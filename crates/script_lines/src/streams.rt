@@ -1,29 +1,33 @@
 //! The streams of a program that answers: what it has written is there to be read before it waits for more input.
 
-ghost use Rattle.std.specs.Prelude.{◌≡◌, ◌⊎◌, [], true, false, IsErr, OnOk, OnErr, IfOk};
+ghost use Rattle.std.specs.Prelude.{◌≡◌, ◌⊎◌, [], None, Some, IsErr, IsSome, OnOk, OnErr, IfErr, IfOk};
 ghost use Rattle.std.specs.Io.Buffered.{writer_buffer, writer_contents};
 ghost use Rattle.std.specs.Io.KnownBytes.{Appends, Keeps, ReadConsumes};
 ghost use Rattle.std.specs.Io.{ReadsAtMost};
+ghost use Rattle.std.specs.IoError.{raw_os_error};
+ghost use Rattle.script_lines.specs.Failures.{code_of};
 
+use crate::failures::code_of;
 use std::alloc::Global;
-use std::cell::RefCell;
+use std::cell::{Cell, RefCell};
 use std::io::{self, BufWriter, Error, ErrorKind, Read, Write};
 
 /// An output with a buffer. Once it has failed nothing more is written to it, not even what is in the buffer.
 #[derive(Drop)]
 pub(crate) struct Output<W: Write + Drop> {
     writer: BufWriter<W>,
-    has_failed: bool,
+    /// The operating system's number for the error with which it failed, if it did; 0 if the error has none.
+    failure: Option<u32>,
 }
 
 impl<W: Write + Drop> Output<W> {
     /// An output with an empty buffer.
     pub(crate) fn new(alloc: Global, writer: W) -> io::Result<Output<W>>
-        ensures { IfOk result (λ output. (writer_buffer output.writer ≡ []) × (output.has_failed ≡ false)) }
+        ensures { IfOk result (λ output. (writer_buffer output.writer ≡ []) × (output.failure ≡ None)) }
     {
         Ok(Output {
             writer: BufWriter::new(alloc, writer)?,
-            has_failed: false,
+            failure: None,
         })
     }
 
@@ -31,14 +35,14 @@ impl<W: Write + Drop> Output<W> {
     fn flush(&mut self) -> io::Result<()>
         ensures empty { OnOk result (writer_buffer self.new.writer ≡ []) }
         ensures bytes { Keeps (writer_contents W.contents self.old.writer) (writer_contents W.contents self.new.writer) }
-        ensures fails { OnErr result (self.new.has_failed ≡ true) }
-        ensures failed { self.old.has_failed ≡ true → IsErr result × (self.new ≡ self.old) }
+        ensures fails { OnErr result (IsSome self.new.failure) }
+        ensures failed { IsSome self.old.failure → IsErr result × (self.new ≡ self.old) }
     {
-        if self.has_failed {
+        if self.failure.is_some() {
             return Err(failed());
         }
         let flushed = self.writer.flush();
-        self.has_failed = flushed.is_err();
+        self.failure = failure_of(&flushed);
         flushed
     }
 
@@ -46,20 +50,34 @@ impl<W: Write + Drop> Output<W> {
     fn write_all(&mut self, bytes: &[u8]) -> io::Result<()>
         ensures appends { OnOk result (Appends (writer_contents W.contents self.old.writer)
             (writer_contents W.contents self.new.writer) bytes.now) }
-        ensures fails { OnErr result (self.new.has_failed ≡ true) }
-        ensures failed { self.old.has_failed ≡ true → IsErr result × (self.new ≡ self.old) }
+        ensures fails { OnErr result (IsSome self.new.failure) }
+        ensures failed { IsSome self.old.failure → IsErr result × (self.new ≡ self.old) }
     {
-        if self.has_failed {
+        if self.failure.is_some() {
             return Err(failed());
         }
         let written = self.writer.write_all(bytes);
-        self.has_failed = written.is_err();
+        self.failure = failure_of(&written);
         written
     }
 
-    /// Ends it. What is in the buffer is not written.
-    pub(crate) fn discard(self) {
+    /// Ends it, and returns the number of the error with which it failed, if it did. What is in the buffer is not written.
+    pub(crate) fn discard(self) -> Option<u32>
+        ensures { result ≡ self.failure }
+    {
         let _ = self.writer.into_parts();
+        self.failure
+    }
+}
+
+/// The operating system's number for the error that is answered, if one is.
+fn failure_of<T>(answer: &io::Result<T>) -> Option<u32>
+    ensures fine { OnOk answer.now (result ≡ None) }
+    ensures failed { IfErr answer.now (λ error. result ≡ Some (code_of (raw_os_error error))) }
+{
+    match answer {
+        Ok(_) => None,
+        Err(error) => Some(code_of(error)),
     }
 }
 
@@ -76,7 +94,7 @@ fn read_after_flush<R: Read, W: Write + Drop>(
 ) -> io::Result<usize>
     ensures bound { ReadsAtMost result bytes.new }
     ensures bytes { ReadConsumes (R.remaining input.old) (R.remaining input.new) result bytes.new }
-    ensures flushed { (writer_buffer output.new.writer ≡ []) ⊎ (output.new.has_failed ≡ true) × (input.new ≡ input.old) }
+    ensures flushed { (writer_buffer output.new.writer ≡ []) ⊎ IsSome output.new.failure × (input.new ≡ input.old) }
     ensures kept { Keeps (writer_contents W.contents output.old.writer) (writer_contents W.contents output.new.writer) }
 {
     output.flush()?;
@@ -122,11 +140,21 @@ impl<'a, W: Write + Drop> Write for SharedOutput<'a, W> {
 pub(crate) struct FlushingInput<'a, R, W: Write + Drop> {
     input: R,
     output: &'a RefCell<Output<W>>,
+    /// The operating system's number for the error of the last read, if it had one.
+    failure: &'a Cell<Option<u32>>,
 }
 
 impl<'a, R: Read, W: Write + Drop> FlushingInput<'a, R, W> {
-    pub(crate) fn new(input: R, output: &'a RefCell<Output<W>>) -> FlushingInput<'a, R, W> {
-        FlushingInput { input, output }
+    pub(crate) fn new(
+        input: R,
+        output: &'a RefCell<Output<W>>,
+        failure: &'a Cell<Option<u32>>,
+    ) -> FlushingInput<'a, R, W> {
+        FlushingInput {
+            input,
+            output,
+            failure,
+        }
     }
 }
 
@@ -135,7 +163,13 @@ impl<'a, R: Read, W: Write + Drop> Read for FlushingInput<'a, R, W> {
 
     fn read(&mut self, bytes: &mut [u8]) -> io::Result<usize> {
         match self.output.try_borrow_mut() {
-            Ok(mut output) => read_after_flush(&mut self.input, &mut *output, bytes),
+            Ok(mut output) => {
+                let read = read_after_flush(&mut self.input, &mut *output, bytes);
+                if output.failure.is_none() {
+                    self.failure.set(failure_of(&read));
+                }
+                read
+            }
             Err(_) => Err(failed()),
         }
     }
