@@ -8,3 +8,4 @@ mod writing;
 
 pub use elements::{write_attribute, write_element};
 pub use escaping::{write_escaped, write_escaped_bytes};
+pub use writing::{write_bytes, write_number, write_plain};

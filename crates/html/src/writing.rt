@@ -1,8 +1,10 @@
 //! Writes bytes, so that it is known of an error too what was written.
 ghost use Rattle.std.specs.Prelude.{OnErr, OnOk};
+ghost use Rattle.std.specs.Fmt.{decimal};
 ghost use Rattle.std.specs.Io.KnownBytes.{Appends};
 ghost use Rattle.html.specs.Written.{AppendsBeginning};
 
+use itoa::Buffer;
 use std::io::{self, ErrorKind, Write};
 
 /// Writes bytes. Nothing is known of what `write_all` has written where it gives an error, so the bytes go to `write`.
@@ -10,7 +12,7 @@ use std::io::{self, ErrorKind, Write};
 /// # Errors
 ///
 /// The output gave an error, or took nothing. A beginning of the bytes is written.
-pub(crate) fn write_bytes<O: Write>(bytes: &[u8], out: &mut O) -> io::Result<()>
+pub fn write_bytes<O: Write>(bytes: &[u8], out: &mut O) -> io::Result<()>
     ensures written { OnOk result (Appends (O.contents out.old) (O.contents out.new) bytes.now) }
     ensures cut { OnErr result (AppendsBeginning (O.contents out.old) (O.contents out.new) bytes.now) }
 {
@@ -29,14 +31,27 @@ pub(crate) fn write_bytes<O: Write>(bytes: &[u8], out: &mut O) -> io::Result<()>
     Err(ErrorKind::Interrupted.into())
 }
 
-/// Writes a text as it is.
+/// Writes a text, of which nothing is escaped.
 ///
 /// # Errors
 ///
 /// As [`write_bytes`].
-pub(crate) fn write_plain<O: Write>(text: &str, out: &mut O) -> io::Result<()>
+pub fn write_plain<O: Write>(text: &str, out: &mut O) -> io::Result<()>
     ensures written { OnOk result (Appends (O.contents out.old) (O.contents out.new) text.now) }
     ensures cut { OnErr result (AppendsBeginning (O.contents out.old) (O.contents out.new) text.now) }
 {
     write_bytes(text.as_bytes(), out)
+}
+
+/// Writes a number in decimal digits.
+///
+/// # Errors
+///
+/// As [`write_bytes`].
+pub fn write_number<O: Write>(number: u64, out: &mut O) -> io::Result<()>
+    ensures written { OnOk result (Appends (O.contents out.old) (O.contents out.new) (decimal number)) }
+    ensures cut { OnErr result (AppendsBeginning (O.contents out.old) (O.contents out.new) (decimal number)) }
+{
+    let mut digits = Buffer::new();
+    write_plain(digits.format(number), out)
 }
