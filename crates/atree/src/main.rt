@@ -1,7 +1,7 @@
 //! The program `atree`: runs a script from standard input, and prints events, answers and the tree.
 #![tactic(auto)]
 
-use atree_script::{Program, Streams, run_program, run_script};
+use atree_script::{Program, Streams, run_program_silently, run_script};
 use std::io::{BufRead, Write};
 use std::process::ExitCode;
 
@@ -17,5 +17,5 @@ impl Program for Atree {
 }
 
 fn main(rt: HostRuntime) -> ExitCode {
-    run_program(&rt, &Atree)
+    run_program_silently(&rt, &Atree)
 }

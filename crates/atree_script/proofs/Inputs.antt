@@ -34,9 +34,9 @@ at_bytes bytes begun comment number = record { left = bytes; begun = begun; comm
 same_place : (bytes : List ℕ) {begun begun' : Option UpdateData} {comment comment' : List ℕ} {number number' : ℕ} → begun ≡ begun' → comment ≡ comment' → number ≡ number' → at_bytes bytes begun comment number ≡ at_bytes bytes begun' comment' number'
 same_place bytes b c n = λ i. at_bytes bytes (b i) (c i) (n i)
 
--- a command with the comment before it, as the reader has it then
+-- a command with the comment before it and its line, as the reader has them then
 abbrev pub commented : ScriptReader → ScriptCommand → Commented
-commented reader command = record { comment = comment_of reader; command = command }
+commented reader command = record { comment = comment_of reader; line = number_of reader; command = command }
 
 module _ (before : Option (List ℕ)) (first : ScriptReader) (commands : List Commented) (left : Option (List ℕ)) (reader : ScriptReader) (has_read : HasRead before first commands left reader) where
   pub one_more : (command : ScriptCommand) (next : ScriptReader) (after : Option (List ℕ)) → Answers left reader (Ok (Some command)) next after → HasRead before first (commands ++ commented next command ∷ []) after next
@@ -47,7 +47,7 @@ module _ (before : Option (List ℕ)) (first : ScriptReader) (commands : List Co
       known (Some bytes) h =
           let k = subst (λ l. Answers l reader (Ok (Some command)) next after) h.1 answers in
           let same : place next k.0.left ≡ k.0 = same_place k.0.left k.2.1.0 k.2.1.2 k.2.0 in
-          (k.0.left, k.2.1.1, subst (λ p. FoldsTo ReadsNext (place first bytes) (commands ++ commented next command ∷ []) p) (sym same) (FoldsTo-push ReadsNext (place first bytes) commands (place reader h.0) (commented next command) k.0 h.2 (k.1, sym k.2.1.2)))
+          (k.0.left, k.2.1.1, subst (λ p. FoldsTo ReadsNext (place first bytes) (commands ++ commented next command ∷ []) p) (sym same) (FoldsTo-push ReadsNext (place first bytes) commands (place reader h.0) (commented next command) k.0 h.2 (k.1, sym k.2.1.2, sym k.2.0)))
 
   -- the reading ends
   pub read_out : (ended : Result Unit Stop) (next : ScriptReader) (after : Option (List ℕ)) → Answers left reader (no_command ended) next after → ReadsAll (option_map (place first) before) commands ended (number_of next)

@@ -1,4 +1,4 @@
--- Which commands are read from a script's input, each with the comment before it.
+-- Which commands are read from a script's input, each with the comment before it and its line.
 use Rattle.std.specs.Prelude.{◌≡◌, ℕ, List, [], Option, Some, None, option_map, IfSome, Result, Ok, Err}
 use Rattle.std.specs.List.{FoldsTo}
 use Rattle.script_lines.specs.ScriptReading.{Place, ReadsTo}
@@ -9,14 +9,16 @@ use Rattle.script_words.specs.declared.stops.Stop.{Stop}
 abbrev pub start_of : Option (List ℕ) → Option Place
 start_of input = option_map (λ bytes. record { left = bytes; begun = None; comment = []; number = 0 }) input
 
--- a command, and the text of the comment lines right before it
+-- a command, the text of the comment lines right before it, and the number of its last line
 pub record Commented : Type 0 where
   pub comment : List ℕ
+  pub line : ℕ
   pub command : ScriptCommand
 
--- the next command is read, with its comment
+-- the next command is read, with its comment and its line
 abbrev pub ReadsNext : Place → Commented → Place → Type 0
 ReadsNext at c next = ReadsTo at (Ok (Some c.command)) next × (next.comment ≡ c.comment)
+    × (next.number ≡ c.line)
 
 -- what reading on gives where no command comes: the end of the input, or why the reading stops
 abbrev pub no_command : Result Unit Stop → Result (Option ScriptCommand) Stop

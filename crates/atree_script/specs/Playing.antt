@@ -49,11 +49,12 @@ pub record RunsTold {H : Type 0} (steps : H → Event → H → Type 0) (old : W
 
 -- ---- turns
 
--- what a player is asked to do, with the world before and the world after, and with the comment before what changes the tree
+-- what a player is asked to do, with the world before and the world after, with the comment before what changes the tree, and with the line
+-- of what may be refused
 pub data Turn : Type 0 where
   Begun : (comment : List ℕ) (w : World) → Turn
-  FirstRefused : (comment : List ℕ) (why : UpdateError) → Turn
-  Ran : (comment : List ℕ) (old : World) (c : Command) (new : World) → Turn
+  FirstRefused : (comment : List ℕ) (line : ℕ) (why : UpdateError) → Turn
+  Ran : (comment : List ℕ) (line : ℕ) (old : World) (c : Command) (new : World) → Turn
   Asked : (old : Option World) (q : Query) (new : Option World) → Turn
   Printed : (w : Option World) → Turn
 
@@ -67,31 +68,32 @@ no_tree = record { world = None; host = false }
 
 module _ {P : Type 0} (turns : P → Turn → Result Unit Stop → P → Type 0) where
   -- a first update makes the tree, or is refused
-  abbrev pub SendsFirst : Bool → P → List ℕ → TreeUpdate → Result Unit Stop → Stage → P → Type 0
-  SendsFirst host s comment u result new t =
+  abbrev pub SendsFirst : Bool → P → List ℕ → ℕ → TreeUpdate → Result Unit Stop → Stage → P → Type 0
+  SendsFirst host s comment line u result new t =
       ((w : World) × Begins host (update_data u) w × (new ≡ record { world = Some w; host = host }) × turns s (Begun comment w) result t)
       ⊎ ((why : UpdateError) × IsRefusal (empty_world host) (update_data u) why × (new ≡ record { world = None; host = host })
-      × turns s (FirstRefused comment why) result t)
+      × turns s (FirstRefused comment line why) result t)
 
   -- a command is run on a tree
-  abbrev pub RunsOn : Bool → P → List ℕ → Command → Result Unit Stop → Stage → P → World → Type 0
-  RunsOn host s comment c result new t w =
-      (v : World) × (new ≡ record { world = Some v; host = host }) × turns s (Ran comment w c v) result t
+  abbrev pub RunsOn : Bool → P → List ℕ → ℕ → Command → Result Unit Stop → Stage → P → World → Type 0
+  RunsOn host s comment line c result new t w =
+      (v : World) × (new ≡ record { world = Some v; host = host }) × turns s (Ran comment line w c v) result t
 
-  -- what carrying out a command, with the comment before it, makes of the script and the player, and how that ended
-  abbrev pub CarriesOut : Stage → P → List ℕ → ScriptCommand → Result Unit Stop → Stage → P → Type 0
-  CarriesOut old s comment (script.Update u) result new t =
-      MatchOption old.world (SendsFirst old.host s comment u result new t) (RunsOn old.host s comment (command.Update u) result new t)
-  CarriesOut old s comment (script.HostFocus host) result new t =
+  -- what carrying out a command, with the comment before it and its line, makes of the script and the player, and how that ended
+  abbrev pub CarriesOut : Stage → P → List ℕ → ℕ → ScriptCommand → Result Unit Stop → Stage → P → Type 0
+  CarriesOut old s comment line (script.Update u) result new t =
+      MatchOption old.world (SendsFirst old.host s comment line u result new t)
+      (RunsOn old.host s comment line (command.Update u) result new t)
+  CarriesOut old s comment line (script.HostFocus host) result new t =
       MatchOption old.world ((result ≡ Ok tt) × (new ≡ record { world = None; host = host }) × (t ≡ s))
-      (RunsOn host s comment (command.HostFocus host) result new t)
-  CarriesOut old s comment script.Print result new t = (new ≡ old) × turns s (Printed old.world) result t
-  CarriesOut old s comment (script.Query q) result new t =
+      (RunsOn host s comment line (command.HostFocus host) result new t)
+  CarriesOut old s comment line script.Print result new t = (new ≡ old) × turns s (Printed old.world) result t
+  CarriesOut old s comment line (script.Query q) result new t =
       (v : Option World) × (new ≡ record { world = v; host = old.host }) × turns s (Asked old.world q v) result t
 
   -- a command is carried out, and the script goes on
   abbrev pub GoesOn : Stage × P → Commented → Stage × P → Type 0
-  GoesOn a c b = CarriesOut a.0 a.1 c.comment c.command (Ok tt) b.0 b.1
+  GoesOn a c b = CarriesOut a.0 a.1 c.comment c.line c.command (Ok tt) b.0 b.1
 
   -- commands are carried out in turn, and the last of them stops the script
   pub record StopsAtLast (start : Stage × P) (commands : List Commented) (ended : Result Unit Stop) (end : Stage × P) : Type 0 where
@@ -102,7 +104,7 @@ module _ {P : Type 0} (turns : P → Turn → Result Unit Stop → P → Type 0)
     pub before : FoldsTo GoesOn start earlier between
     pub stop : Stop
     pub stopped : ended ≡ Err stop
-    pub carried : CarriesOut between.0 between.1 last.comment last.command ended end.0 end.1
+    pub carried : CarriesOut between.0 between.1 last.comment last.line last.command ended end.0 end.1
 
   -- Commands are read and carried out in turn: all that the input has, up to where the reading ends, or the last of them stops the script.
   abbrev pub Plays : Option Place → Stage × P → List Commented → Result Unit Stop → ℕ → Stage × P → Type 0

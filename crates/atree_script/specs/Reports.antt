@@ -22,14 +22,15 @@ use Rattle.atree_script.specs.Played.{Bytes}
 use Rattle.atree_script.specs.Playing.{Turn, Begun, FirstRefused, Ran, Asked, Printed, Stage, no_tree, Plays, end_of_refusal}
 use Rattle.atree_script.specs.Scripts.{Writes}
 
--- the report of a refused update, by its number among the updates
-abbrev pub report_line : ℕ → UpdateError → List ℕ
-report_line number why = codes "update " ++ decimal number ++ codes ": " ++ refusal_text why ++ codes "\n"
+-- the report of a refused update, by the line that ends it and its number among the updates
+abbrev pub report_line : ℕ → ℕ → UpdateError → List ℕ
+report_line number line why =
+    codes "line " ++ decimal line ++ codes ", update " ++ decimal number ++ codes ": " ++ refusal_text why ++ codes "\n"
 
 -- it is written; an update that ran out of memory stops the script, and isn't reported here
-abbrev pub ReportsRefusal : ℕ → UpdateError → Result Unit Stop → Bytes → Bytes → Type 0
-ReportsRefusal number why result before after =
-    MatchResult (end_of_refusal why) (λ done. Writes (report_line number why) (Ok tt) result before after)
+abbrev pub ReportsRefusal : ℕ → ℕ → UpdateError → Result Unit Stop → Bytes → Bytes → Type 0
+ReportsRefusal number line why result before after =
+    MatchResult (end_of_refusal why) (λ done. Writes (report_line number line why) (Ok tt) result before after)
     (λ stop. (result ≡ Err stop) × (after ≡ before))
 
 -- the refusal that a reply is
@@ -38,18 +39,18 @@ refusal_of (Refused why) = Some why
 refusal_of _ = None
 
 -- of a reply that is no refusal nothing is reported
-abbrev pub ReportsReply : ℕ → Result Reply AllocError → Result Unit Stop → Bytes → Bytes → Type 0
-ReportsReply number (Ok reply) result before after =
-    MatchOption (refusal_of reply) ((result ≡ Ok tt) × (after ≡ before)) (λ why. ReportsRefusal number why result before after)
-ReportsReply number (Err wanting) result before after = (result ≡ Err Memory) × (after ≡ before)
+abbrev pub ReportsReply : ℕ → ℕ → Result Reply AllocError → Result Unit Stop → Bytes → Bytes → Type 0
+ReportsReply number line (Ok reply) result before after =
+    MatchOption (refusal_of reply) ((result ≡ Ok tt) × (after ≡ before)) (λ why. ReportsRefusal number line why result before after)
+ReportsReply number line (Err wanting) result before after = (result ≡ Err Memory) × (after ≡ before)
 
 -- a command takes a step of the session, and a refusal is reported
-pub record ReportsStep (number : ℕ) (old : World) (c : Command) (new : World) (result : Result Unit Stop)
+pub record ReportsStep (number line : ℕ) (old : World) (c : Command) (new : World) (result : Result Unit Stop)
     (before after : Bytes) : Type 0 where
   pub events : List Event
   pub reply : Result Reply AllocError
   pub step : IsStep old c new events reply
-  pub reported : ReportsReply number reply result before after
+  pub reported : ReportsReply number line reply result before after
 
 -- updates are counted as they stand in the script, refused ones too
 abbrev pub count_after : ℕ → Command → ℕ
@@ -59,8 +60,8 @@ count_after number c = number
 -- what is reported of a turn, with the number of updates and the bytes reported so far: nothing of the tree, of questions and of `print`
 abbrev pub Reports : ℕ × Bytes → Turn → Result Unit Stop → ℕ × Bytes → Type 0
 Reports s (Begun comment w) result t = (t.0 ≡ next_number s.0) × (t.1 ≡ s.1) × (result ≡ Ok tt)
-Reports s (FirstRefused comment why) result t = (t.0 ≡ next_number s.0) × ReportsRefusal t.0 why result s.1 t.1
-Reports s (Ran comment old c new) result t = (t.0 ≡ count_after s.0 c) × ReportsStep t.0 old c new result s.1 t.1
+Reports s (FirstRefused comment line why) result t = (t.0 ≡ next_number s.0) × ReportsRefusal t.0 line why result s.1 t.1
+Reports s (Ran comment line old c new) result t = (t.0 ≡ count_after s.0 c) × ReportsStep t.0 line old c new result s.1 t.1
 Reports s (Asked old q new) result t = (new ≡ old) × (t ≡ s) × (result ≡ Ok tt)
 Reports s (Printed w) result t = (t ≡ s) × (result ≡ Ok tt)
 

@@ -47,8 +47,8 @@ PrintsAnswer (Some w) c (Some v) result before after = PrintsStep w c v result b
 -- what is printed of a turn
 abbrev pub Prints : Bytes → Turn → Result Unit Stop → Bytes → Type 0
 Prints before (Begun comment w) result after = Writes (codes "ok\n") (Ok tt) result before after
-Prints before (FirstRefused comment why) result after = Writes (refusal_line why) (Ok tt) result before after
-Prints before (Ran comment old c new) result after = PrintsStep old c new result before after
+Prints before (FirstRefused comment line why) result after = Writes (refusal_line why) (Ok tt) result before after
+Prints before (Ran comment line old c new) result after = PrintsStep old c new result before after
 Prints before (Asked old q new) result after = PrintsAnswer old (command.Query q) new result before after
 Prints before (Printed w) result after = Writes (option_map_or tree_text w (codes "no tree\n")) (Ok tt) result before after
 

@@ -11,8 +11,7 @@ use crate::playing::{Played, Player, play, stopped_by};
 use accesskit_consumer::node::NodeRef;
 use accesskit_consumer::tree::{TreeChangeHandler, UpdateError};
 use script_lines::{
-    Arguments, Manual, Program, Stop, Streams, end_run, read_arguments, run_program,
-    tell_script_stop,
+    Arguments, Manual, Program, Stop, Streams, end_run, read_run, run_reporting, tell_script_stop,
 };
 use session::{Command, Query, Reply, Session};
 use std::alloc::{AllocError, Global};
@@ -52,14 +51,20 @@ impl<'a, E: Write> Player for Reading<'a, E> {
         Ok(())
     }
 
-    fn refuse(&mut self, _: &[u8], refusal: UpdateError) -> Result<(), Stop> {
+    fn refuse(&mut self, _: &[u8], line: u64, refusal: UpdateError) -> Result<(), Stop> {
         self.updates = next_number(self.updates);
-        report_refusal(self.updates, refusal, self.errors)
+        report_refusal(self.updates, line, refusal, self.errors)
     }
 
-    fn run(&mut self, _: &[u8], session: &mut Session, command: Command) -> Result<(), Stop> {
+    fn run(
+        &mut self,
+        _: &[u8],
+        line: u64,
+        session: &mut Session,
+        command: Command,
+    ) -> Result<(), Stop> {
         self.updates = count_after(self.updates, &command);
-        run_reported(session, command, self.updates, self.errors)
+        run_reported(session, command, self.updates, line, self.errors)
     }
 
     fn ask(&mut self, _session: &mut Option<Session>, _query: Query) -> Result<(), Stop> {
@@ -88,17 +93,18 @@ pub fn next_number(updates: u64) -> u64
     updates.saturating_add(1)
 }
 
-/// Runs a command, and reports a refused update by this number.
+/// Runs a command, and reports a refused update by this number and line.
 fn run_reported<E: Write>(
     session: &mut Session,
     command: Command,
     number: u64,
+    line: u64,
     errors: &mut E,
 ) -> Result<(), Stop>
-    ensures { ReportsStep number session.old command session.new result (E.contents errors.old) (E.contents errors.new) }
+    ensures { ReportsStep number line session.old command session.new result (E.contents errors.old) (E.contents errors.new) }
 {
     let reply = step_silent(session, command);
-    report_reply(number, &reply, errors)
+    report_reply(number, line, &reply, errors)
 }
 
 /// Runs a command whose events nobody receives.
@@ -108,21 +114,22 @@ fn step_silent(session: &mut Session, command: Command) -> Result<Reply, AllocEr
     session.step(command, &mut Silent)
 }
 
-/// Reports by its number that an update was refused, if this is the reply to it.
+/// Reports by its number and the line that ends it that an update was refused, if this is the reply to it.
 ///
 /// # Errors
 ///
 /// Returns `Stop::Memory` if memory ran out, also in the update, and `Stop::WriteFault` for an error of `errors`.
 pub fn report_reply<E: Write>(
     number: u64,
+    line: u64,
     reply: &Result<Reply, AllocError>,
     errors: &mut E,
 ) -> Result<(), Stop>
-    ensures { ReportsReply number reply.now result (E.contents errors.old) (E.contents errors.new) }
+    ensures { ReportsReply number line reply.now result (E.contents errors.old) (E.contents errors.new) }
 {
     match reply {
         Ok(reply) => match refusal_of(reply) {
-            Some(refusal) => report_refusal(number, refusal, errors),
+            Some(refusal) => report_refusal(number, line, refusal, errors),
             None => Ok(()),
         },
         Err(_) => Err(Stop::Memory),
@@ -139,21 +146,23 @@ fn refusal_of(reply: &Reply) -> Option<UpdateError>
     }
 }
 
-/// Reports by its number that an update was refused, and why. One that ran out of memory stops the script, and isn't reported here.
+/// Reports by its number and the line that ends it that an update was refused, and why. One that ran out of memory stops the script, and
+/// isn't reported here.
 ///
 /// # Errors
 ///
 /// Returns `Stop::Memory` if memory ran out in the update, and `Stop::WriteFault` for an error of `errors`.
 pub fn report_refusal<E: Write>(
     number: u64,
+    line: u64,
     refusal: UpdateError,
     errors: &mut E,
 ) -> Result<(), Stop>
-    ensures { ReportsRefusal number refusal result (E.contents errors.old) (E.contents errors.new) }
+    ensures { ReportsRefusal number line refusal result (E.contents errors.old) (E.contents errors.new) }
 {
     match stopped_by(refusal) {
         Ok(()) => {
-            writeln!(errors, "update {number}: {refusal}")?;
+            writeln!(errors, "line {line}, update {number}: {refusal}")?;
             Ok(())
         }
         Err(stop) => Err(stop),
@@ -179,14 +188,14 @@ pub trait Teller {
 const NOT_THERE: u8 = 1;
 
 /// Runs a program that prints something about the tree that the script on standard input leaves, as its arguments say, unless
-/// [`script_lines::read_arguments`] says that it is not to run. The exit status is 0 if what was asked for exists, and 1 if it doesn't;
-/// 2, 3 and 4 are as for [`crate::run_script`].
+/// [`script_lines::read_run`] says that it is not to run. The exit status is 0 if what was asked for exists, and 1 if it doesn't, or if
+/// the run ends at a refused update, as [`script_lines::run_reporting`] says; 2, 3 and 4 are as for [`crate::run_script`].
 pub fn tell_as_asked<T: Teller + Arguments>(rt: &HostRuntime, manual: &Manual) -> ExitCode
     ensures { exit_status result ≤ 4 }
 {
-    let asked: Result<(bool, T), u8> = read_arguments(rt, manual);
+    let asked: Result<(bool, (bool, T)), u8> = read_run(rt, manual);
     match asked {
-        Ok((_, teller)) => run_program(rt, &Telling { teller }),
+        Ok((is_strict, (_, teller))) => run_reporting(rt, is_strict, &Telling { teller }),
         Err(status) => ExitCode::from(status),
     }
 }
@@ -235,7 +244,7 @@ fn told<T: Teller, O: Write>(
 }
 
 /// Reads a script to its end and returns the session that it leaves, if there is a tree. Refused updates change
-/// nothing and are reported on `errors`, each by its number among the updates; queries are skipped.
+/// nothing and are reported on `errors`, each by its line and its number among the updates; queries are skipped.
 ///
 /// # Errors
 ///

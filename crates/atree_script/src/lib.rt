@@ -17,7 +17,8 @@ pub use run::run_script;
 pub use script_lines::{
     ArgumentError, ArgumentKind, Arguments, Manual, NoArguments, Program, ScriptCommand,
     ScriptReader, Stop, Streams, end_run, end_script_run, is_like_a_file, miscounted, number,
-    read_arguments, role_named, run_program, run_without_arguments, tell_no_memory, tree_named,
-    unknown_word, write_quoted,
+    read_arguments, read_run, role_named, run_program, run_program_silently, run_reporting,
+    run_reports_alone, run_without_arguments, tell_no_memory, tree_named, unknown_word,
+    write_quoted,
 };
 pub use script_words::sides::write_sides;

@@ -27,21 +27,29 @@ pub trait Player {
     fn begin(&mut self, comment: &[u8], session: &Session) -> Result<(), Stop>
         ensures { turns self.old (Begun comment.now session.now) result self.new };
 
-    /// Called when an update that would have made the tree was refused. The script goes on unless this stops it.
+    /// Called when an update that would have made the tree was refused, which ends on the line with this number, counted from 1. The
+    /// script goes on unless this stops it.
     ///
     /// # Errors
     ///
     /// Returns why the script stops there.
-    fn refuse(&mut self, comment: &[u8], refusal: UpdateError) -> Result<(), Stop>
-        ensures { turns self.old (FirstRefused comment.now refusal) result self.new };
+    fn refuse(&mut self, comment: &[u8], line: u64, refusal: UpdateError) -> Result<(), Stop>
+        ensures { turns self.old (FirstRefused comment.now line refusal) result self.new };
 
-    /// Runs an update or a change of the host's focus, which has this comment right before it.
+    /// Runs an update or a change of the host's focus, which has this comment right before it and ends on the line with this number,
+    /// counted from 1.
     ///
     /// # Errors
     ///
     /// Returns why the script stops there.
-    fn run(&mut self, comment: &[u8], session: &mut Session, command: Command) -> Result<(), Stop>
-        ensures { turns self.old (Ran comment.now session.old command session.new) result self.new };
+    fn run(
+        &mut self,
+        comment: &[u8],
+        line: u64,
+        session: &mut Session,
+        command: Command,
+    ) -> Result<(), Stop>
+        ensures { turns self.old (Ran comment.now line session.old command session.new) result self.new };
 
     /// Answers a query, possibly before there is a tree.
     ///
@@ -156,24 +164,25 @@ impl Playing {
             let Some(command) = script.next_command(input)? else {
                 return Ok(());
             };
-            self.carry_out(script.comment(), command, player)?;
+            self.carry_out(script.comment(), script.line_number(), command, player)?;
         }
         Err(Stop::ReadFault)
     }
 
-    /// Carries out a command, which has this comment right before it.
+    /// Carries out a command, which has this comment right before it and ends on this line.
     fn carry_out<P: Player>(
         &mut self,
         comment: &[u8],
+        line: u64,
         command: ScriptCommand,
         player: &mut P,
     ) -> Result<(), Stop>
-        ensures { CarriesOut P.turns (stage_of self.old) player.old comment.now command result (stage_of self.new) player.new }
+        ensures { CarriesOut P.turns (stage_of self.old) player.old comment.now line command result (stage_of self.new) player.new }
     {
         match command {
-            ScriptCommand::Update(update) => self.send(comment, update, player),
+            ScriptCommand::Update(update) => self.send(comment, line, update, player),
             ScriptCommand::HostFocus(is_host_focused) => {
-                self.set_host_focus(comment, is_host_focused, player)
+                self.set_host_focus(comment, line, is_host_focused, player)
             }
             ScriptCommand::Print => player.print(&self.session),
             ScriptCommand::Query(query) => player.ask(&mut self.session, query),
@@ -184,15 +193,16 @@ impl Playing {
     fn send<P: Player>(
         &mut self,
         comment: &[u8],
+        line: u64,
         update: TreeUpdate,
         player: &mut P,
     ) -> Result<(), Stop>
-        ensures { CarriesOut P.turns (stage_of self.old) player.old comment.now (script_.Update update) result
+        ensures { CarriesOut P.turns (stage_of self.old) player.old comment.now line (script_.Update update) result
             (stage_of self.new) player.new }
     {
         match &mut self.session {
-            Some(session) => player.run(comment, session, Command::Update(update)),
-            None => self.send_first(comment, update, player),
+            Some(session) => player.run(comment, line, session, Command::Update(update)),
+            None => self.send_first(comment, line, update, player),
         }
     }
 
@@ -200,11 +210,12 @@ impl Playing {
     fn send_first<P: Player>(
         &mut self,
         comment: &[u8],
+        line: u64,
         update: TreeUpdate,
         player: &mut P,
     ) -> Result<(), Stop>
         requires { self.old.session ≡ None }
-        ensures { SendsFirst P.turns self.old.is_host_focused player.old comment.now update result (stage_of self.new) player.new }
+        ensures { SendsFirst P.turns self.old.is_host_focused player.old comment.now line update result (stage_of self.new) player.new }
     {
         match Session::new(self.alloc, update, self.is_host_focused) {
             Ok(session) => {
@@ -212,7 +223,7 @@ impl Playing {
                 self.session = Some(session);
                 begun
             }
-            Err(refusal) => player.refuse(comment, refusal),
+            Err(refusal) => player.refuse(comment, line, refusal),
         }
     }
 
@@ -220,15 +231,21 @@ impl Playing {
     fn set_host_focus<P: Player>(
         &mut self,
         comment: &[u8],
+        line: u64,
         is_host_focused: bool,
         player: &mut P,
     ) -> Result<(), Stop>
-        ensures { CarriesOut P.turns (stage_of self.old) player.old comment.now (script_.HostFocus is_host_focused) result
+        ensures { CarriesOut P.turns (stage_of self.old) player.old comment.now line (script_.HostFocus is_host_focused) result
             (stage_of self.new) player.new }
     {
         self.is_host_focused = is_host_focused;
         match &mut self.session {
-            Some(session) => player.run(comment, session, Command::HostFocus(is_host_focused)),
+            Some(session) => player.run(
+                comment,
+                line,
+                session,
+                Command::HostFocus(is_host_focused),
+            ),
             None => Ok(()),
         }
     }

@@ -70,12 +70,18 @@ impl<'a, O: Write> Player for Writing<'a, O> {
     }
 
     /// Prints why the update is refused, also if memory ran out.
-    fn refuse(&mut self, _: &[u8], refusal: UpdateError) -> Result<(), Stop> {
+    fn refuse(&mut self, _: &[u8], _: u64, refusal: UpdateError) -> Result<(), Stop> {
         write_refusal(refusal, self.output)?;
         Ok(())
     }
 
-    fn run(&mut self, _: &[u8], session: &mut Session, command: Command) -> Result<(), Stop> {
+    fn run(
+        &mut self,
+        _: &[u8],
+        _: u64,
+        session: &mut Session,
+        command: Command,
+    ) -> Result<(), Stop> {
         run_command(session, command, self.output)
     }
 

@@ -13,9 +13,12 @@ mod rows;
 
 use crate::manual::MANUAL;
 use crate::program::Compare;
-use script_lines::run_without_arguments;
+use script_lines::{NoArguments, read_run, run_program};
 use std::process::ExitCode;
 
 fn main(rt: HostRuntime) -> ExitCode {
-    run_without_arguments(&rt, &MANUAL, &Compare)
+    match read_run(&rt, &MANUAL) {
+        Ok((is_strict, (_, NoArguments))) => run_program(&rt, &Compare { is_strict }),
+        Err(status) => ExitCode::from(status),
+    }
 }

@@ -5,12 +5,14 @@ use script_lines::Manual;
 /// What the program says of itself.
 pub(crate) const MANUAL: Manual = Manual {
     name: "compare",
-    arguments: "",
+    arguments: " [--strict]",
     option: None,
     help: "\
 Prints how the trees that two scripts leave differ, as far as is shown: a line for each node that came (+), went (-),
 changed (~) or moved (>), with its fields. Both scripts are read from standard input, with a line `# ---` between them.
-There are no arguments.
+Refused updates are reported on standard error.
+
+  --strict  end at the first refused update, with status 1
 
 For example:
   (cat before.script; echo '# ---'; cat after.script) | bin/compare

@@ -46,14 +46,20 @@ impl<'a, E: Write> Player for Reading<'a, E> {
         Ok(())
     }
 
-    fn refuse(&mut self, _: &[u8], refusal: UpdateError) -> Result<(), Stop> {
+    fn refuse(&mut self, _: &[u8], line: u64, refusal: UpdateError) -> Result<(), Stop> {
         self.updates = next_number(self.updates);
-        report_refusal(self.updates, refusal, self.errors)
+        report_refusal(self.updates, line, refusal, self.errors)
     }
 
-    fn run(&mut self, _: &[u8], session: &mut Session, command: Command) -> Result<(), Stop> {
+    fn run(
+        &mut self,
+        _: &[u8],
+        line: u64,
+        session: &mut Session,
+        command: Command,
+    ) -> Result<(), Stop> {
         self.updates = count_after(self.updates, &command);
-        run_reported(session, command, self.updates, self.errors)
+        run_reported(session, command, self.updates, line, self.errors)
     }
 
     fn ask(&mut self, _session: &mut Option<Session>, _query: Query) -> Result<(), Stop> {
@@ -65,17 +71,18 @@ impl<'a, E: Write> Player for Reading<'a, E> {
     }
 }
 
-/// Runs a command, and reports a refused update by this number.
+/// Runs a command, and reports a refused update by this number and line.
 fn run_reported<E: Write>(
     session: &mut Session,
     command: Command,
     number: u64,
+    line: u64,
     errors: &mut E,
 ) -> Result<(), Stop>
-    ensures { ReportsStep number session.old command session.new result (E.contents errors.old) (E.contents errors.new) }
+    ensures { ReportsStep number line session.old command session.new result (E.contents errors.old) (E.contents errors.new) }
 {
     let reply = step_silent(session, command);
-    report_reply(number, &reply, errors)
+    report_reply(number, line, &reply, errors)
 }
 
 /// Runs a command whose events nobody receives.
@@ -86,7 +93,7 @@ fn step_silent(session: &mut Session, command: Command) -> Result<Reply, AllocEr
 }
 
 /// Reads a script to its end and returns the session that it leaves, if there is a tree. Refused updates change nothing and are reported
-/// on `errors`, each by its number among the updates; queries are skipped.
+/// on `errors`, each by its line and its number among the updates; queries are skipped.
 ///
 /// # Errors
 ///

@@ -176,6 +176,6 @@ module _ (p : FullNodeId) (w v : World) (formed : IsFormed w) (alike : DifferInP
   all_hints sought top (id ∷ ids) = refl
 
 pub typing_prints_the_same : TypingPrintsTheSame
-typing_prints_the_same p w v formed alike sought top =
-    (λ i. all_nodes p w v formed alike top (found sought w top) i ++ all_hints p w v formed alike sought top (found sought w top) i)
-    ∙ ap (λ ids. nodes_text v top ids ++ hints sought v top ids) (finds p w v formed alike sought top)
+typing_prints_the_same p w v formed alike near sought top =
+    (λ i. all_nodes p w v formed alike top (found sought w top) i ++ (if near then all_hints p w v formed alike sought top (found sought w top) i else []))
+    ∙ ap (λ ids. nodes_text v top ids ++ (if near then hints sought v top ids else [])) (finds p w v formed alike sought top)

@@ -1,8 +1,10 @@
 pub mod Alike
-pub mod FoundNodes
+pub mod Ended
 pub mod Freed
 pub mod Items
+pub mod Listing
 pub mod Middles
+pub mod Readings
 pub mod Rooted
 pub mod ShownValues
 pub mod SoughtNames

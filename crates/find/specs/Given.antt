@@ -25,6 +25,8 @@ use Rattle.find.specs.declared.options.Switch.TheVariants as switches
 use Rattle.find.specs.declared.wanted.Roles.{Roles}
 use Rattle.find.specs.declared.wanted.Roles.TheVariants.{One, Aria, Any}
 use Rattle.find.specs.declared.wanted.Wanted.{Wanted}
+use Rattle.find.specs.declared.wanted.When.{When}
+use Rattle.find.specs.declared.wanted.When.TheVariants.{AtEnd, After, Each}
 use Rattle.find.specs.Options.{IsNoOption, option_named}
 use Rattle.find.specs.Sought.{IsSought}
 
@@ -52,10 +54,10 @@ abbrev pub GivesRoles : List ℕ → Result Roles ArgumentError → Type 0
 GivesRoles word (Ok roles) = NamesRoles word roles
 GivesRoles word (Err error) = NamesNone word × (None ≡ aria_name word) × NamesNoRole word error
 
--- the level that this word says; where it is no number, that
-abbrev pub NamesLevel : List ℕ → Result ℕ ArgumentError → Type 0
-NamesLevel word (Ok level) = IsCount level × SaysNumber word level
-NamesLevel word (Err error) = ((n : ℕ) → IsCount n × SaysNumber word n → ⊥) × IsUnknownWord kind.Number word None error
+-- the number that this word says; where it is none, that
+abbrev pub NamesNumber : List ℕ → Result ℕ ArgumentError → Type 0
+NamesNumber word (Ok number) = IsCount number × SaysNumber word number
+NamesNumber word (Err error) = ((n : ℕ) → IsCount n × SaysNumber word n → ⊥) × IsUnknownWord kind.Number word None error
 
 -- what an option that stands alone makes of what is wanted
 abbrev pub with_flag : Flag → Wanted → Wanted
@@ -63,6 +65,12 @@ with_flag flags.Contains wanted = record wanted { matching = record wanted.match
 with_flag flags.IgnoreCase wanted = record wanted { matching = record wanted.matching { ignores_case = true } }
 with_flag flags.Exact wanted = record wanted { matching = record wanted.matching { is_exact = true } }
 with_flag flags.AnyNumber wanted = record wanted { any_number = true }
+with_flag flags.Every wanted = record wanted { when = Each }
+
+-- after the update with a number of which this is so
+abbrev pub IsAfterAnd : When → (ℕ → Type 0) → Type 0
+IsAfterAnd (After number) is_so = is_so number
+IsAfterAnd _ is_so = ⊥
 
 -- and one with its word
 abbrev pub IsWith : Wanted → Setting → List ℕ → Wanted → Type 0
@@ -70,17 +78,24 @@ IsWith wanted settings.Label word it = (it ≡ record wanted { label = it.label 
 IsWith wanted settings.Text word it = (it ≡ record wanted { text = it.text }) × (option_map string_bytes it.text ≡ Some word)
 IsWith wanted settings.Any word it = (it ≡ record wanted { any = it.any }) × (option_map string_bytes it.any ≡ Some word)
 IsWith wanted settings.Level word it =
-    (it ≡ record wanted { level = it.level }) × IsSomeAnd it.level (λ level. NamesLevel word (Ok level))
+    (it ≡ record wanted { level = it.level }) × IsSomeAnd it.level (λ level. NamesNumber word (Ok level))
+IsWith wanted settings.At word it = (it ≡ record wanted { when = it.when }) × IsAfterAnd it.when (λ number. NamesNumber word (Ok number))
 
 -- the word of an option may be no number
 abbrev pub IsRefused : Setting → List ℕ → ArgumentError → Type 0
-IsRefused settings.Level word error = NamesLevel word (Err error)
+IsRefused settings.Level word error = NamesNumber word (Err error)
+IsRefused settings.At word error = NamesNumber word (Err error)
 IsRefused _ word error = ⊥
 
--- what is read with a word of an option: what is wanted with it; or that it is refused, or that memory ran out
+-- what is wanted with a word of an option; or that it is refused, or that memory ran out
+abbrev pub GivesWanted : Wanted → Setting → List ℕ → Result Wanted ArgumentError → Type 0
+GivesWanted wanted setting word (Ok it) = IsWith wanted setting word it
+GivesWanted wanted setting word (Err error) = (error ≡ Memory) ⊎ IsRefused setting word error
+
+-- what is read with that word
 abbrev pub GivesSetting : Wanted → Setting → List ℕ → Result Reading ArgumentError → Type 0
-GivesSetting wanted setting word (Ok next) = (next.pending ≡ None) × IsWith wanted setting word next.wanted
-GivesSetting wanted setting word (Err error) = (error ≡ Memory) ⊎ IsRefused setting word error
+GivesSetting wanted setting word (Ok next) = (next.pending ≡ None) × GivesWanted wanted setting word (Ok next.wanted)
+GivesSetting wanted setting word (Err error) = GivesWanted wanted setting word (Err error)
 
 -- a word that belongs to no option is the label, unless it looks like an option; a second label is too many
 abbrev pub GivesLabel : Wanted → List ℕ → Result Reading ArgumentError → Type 0
@@ -131,6 +146,7 @@ with_roles roles =
       any = None;
       matching = record { is_part = false; ignores_case = false; is_exact = false };
       any_number = false;
+      when = AtEnd;
     }
 
 -- the first word names roles, and the others are the label and options

@@ -1,11 +1,14 @@
+pub mod Finding
 pub mod Found
 pub mod Free
 pub mod Given
 pub mod Laws
 pub mod Middle
 pub mod Near
+pub mod Noted
 pub mod Options
 pub mod Printed
+pub mod Reading
 pub mod Sought
 pub mod Told
 pub mod Viewed

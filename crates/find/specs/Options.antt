@@ -22,10 +22,12 @@ options =
     ∷ (codes "--ignore-case", Flag flags.IgnoreCase)
     ∷ (codes "--exact", Flag flags.Exact)
     ∷ (codes "--any-number", Flag flags.AnyNumber)
+    ∷ (codes "--every", Flag flags.Every)
     ∷ (codes "--label", Setting settings.Label)
     ∷ (codes "--text", Setting settings.Text)
     ∷ (codes "--any", Setting settings.Any)
     ∷ (codes "--level", Setting settings.Level)
+    ∷ (codes "--at", Setting settings.At)
     ∷ []
 
 abbrev pub option_named : List ℕ → Option Switch

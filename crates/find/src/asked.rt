@@ -1,24 +1,15 @@
 //! The arguments of the program.
 
-ghost use Rattle.std.specs.Prelude.{◌≡◌, ◌∷◌, [], None, IfOk, OnOk, length, map, string_bytes};
-ghost use Rattle.std.specs.Io.KnownBytes.{Appends};
+ghost use Rattle.std.specs.Prelude.{◌≡◌, ◌∷◌, [], None, map, string_bytes};
 ghost use Rattle.script_lines.specs.ArgumentErrors.{miscounted};
-ghost use Rattle.find.specs.Found.{found_in, is_enough};
-ghost use Rattle.find.specs.Given.{Ends, GivesLabel, GivesNext, GivesSetting, NamesLevel, ReadsOptions, ReadsWanted, Takes, with_flag};
-ghost use Rattle.find.specs.Told.{told_in};
-ghost use Rattle.find.specs.Wanted.{sought_of};
+ghost use Rattle.find.specs.Given.{Ends, GivesLabel, GivesNext, GivesSetting, GivesWanted, NamesNumber, ReadsOptions, ReadsWanted, Takes, with_flag};
 
 use crate::given::roles_given;
 use crate::options::{Flag, Setting, Switch, no_option, option_named};
-use crate::search::tell_found;
-use crate::wanted::Wanted;
-use atree_script::{
-    ArgumentError, ArgumentKind, Arguments, Stop, Teller, is_like_a_file, number, unknown_word,
-};
+use crate::wanted::{Wanted, When};
+use atree_script::{ArgumentError, ArgumentKind, Arguments, is_like_a_file, number, unknown_word};
 use matching::Matching;
-use session::Session;
 use std::alloc::Global;
-use std::io::Write;
 
 /// What the words so far ask for, and the option that the next word belongs to, if one does.
 #[derive(Drop)]
@@ -36,16 +27,6 @@ impl Arguments for Wanted {
             [] => Err(ArgumentError::Count),
             [role, others @ ..] => wanted_by(alloc, role.as_str(), others),
         }
-    }
-}
-
-impl Teller for Wanted {
-    /// Prints each matching node of the tree, and returns whether as many are found as are asked for.
-    fn tell<O: Write>(&self, alloc: Global, session: &Session, output: &mut O) -> Result<bool, Stop>
-        ensures printed { OnOk result (Appends (O.contents output.old) (O.contents output.new) (told_in (sought_of self.now) session.now)) }
-        ensures enough { IfOk result (λ is. is ≡ is_enough self.now.any_number (length (found_in (sought_of self.now) session.now))) }
-    {
-        tell_found(alloc, session.tree().state().root(), self, output)
     }
 }
 
@@ -67,6 +48,7 @@ fn wanted_by(alloc: Global, role: &str, others: &[String]) -> Result<Wanted, Arg
                 is_exact: false,
             },
             any_number: false,
+            when: When::AtEnd,
         },
         pending: None,
     };
@@ -170,10 +152,14 @@ fn with_flag(wanted: Wanted, flag: Flag) -> Wanted
             wanted.any_number = true;
             wanted
         }
+        Flag::Every => {
+            wanted.when = When::Each;
+            wanted
+        }
     }
 }
 
-/// What is asked for with this option and its word too.
+/// What is asked for with this option and its word too, where the next word belongs to none.
 fn with_setting(
     alloc: Global,
     wanted: Wanted,
@@ -182,45 +168,53 @@ fn with_setting(
 ) -> Result<Reading, ArgumentError>
     ensures { GivesSetting wanted setting word.now result }
 {
+    let wanted = wanted_with(alloc, wanted, setting, word)?;
+    Ok(Reading {
+        wanted,
+        pending: None,
+    })
+}
+
+/// What is asked for with this option and its word too.
+fn wanted_with(
+    alloc: Global,
+    wanted: Wanted,
+    setting: Setting,
+    word: &str,
+) -> Result<Wanted, ArgumentError>
+    ensures { GivesWanted wanted setting word.now result }
+{
     let mut wanted = wanted;
     match setting {
         Setting::Label => {
             wanted.label = Some(String::from_str(alloc, word)?);
-            Ok(Reading {
-                wanted,
-                pending: None,
-            })
+            Ok(wanted)
         }
         Setting::Text => {
             wanted.text = Some(String::from_str(alloc, word)?);
-            Ok(Reading {
-                wanted,
-                pending: None,
-            })
+            Ok(wanted)
         }
         Setting::Any => {
             wanted.any = Some(String::from_str(alloc, word)?);
-            Ok(Reading {
-                wanted,
-                pending: None,
-            })
+            Ok(wanted)
         }
         Setting::Level => {
-            wanted.level = Some(level_given(alloc, word)?);
-            Ok(Reading {
-                wanted,
-                pending: None,
-            })
+            wanted.level = Some(number_given(alloc, word)? as usize);
+            Ok(wanted)
+        }
+        Setting::At => {
+            wanted.when = When::After(number_given(alloc, word)?);
+            Ok(wanted)
         }
     }
 }
 
-/// The level that this word says, or the error that it is no number.
-fn level_given(alloc: Global, word: &str) -> Result<usize, ArgumentError>
-    ensures { NamesLevel word.now result }
+/// The number that this word says, or the error that it is none.
+fn number_given(alloc: Global, word: &str) -> Result<u64, ArgumentError>
+    ensures { NamesNumber word.now result }
 {
     match number(word) {
-        Some(level) => Ok(level as usize),
+        Some(number) => Ok(number),
         None => Err(unknown_word(alloc, ArgumentKind::Number, word, None)),
     }
 }

@@ -5,7 +5,7 @@ use atree_script::Manual;
 /// What the program says of itself.
 pub(crate) const MANUAL: Manual = Manual {
     name: "find",
-    arguments: " ROLE [LABEL] [OPTION]..",
+    arguments: " [--strict] ROLE [LABEL] [OPTION]..",
     option: None,
     help: "\
 Prints the visible nodes with a role, and with a label or other texts if these are given, of the tree that a script
@@ -23,6 +23,9 @@ come near. The script is read from standard input.
   --ignore-case    in any case
   --exact          each space counts
   --any-number     one node or more, in place of exactly one
+  --strict         before ROLE: end at the first refused update, with status 1
+  --at N           in the tree after the Nth update
+  --every          in the tree after each update: it prints after which of them what is found changes
 
 For example:
   bin/find Button Apply < examples/settings.script

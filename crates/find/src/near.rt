@@ -1,20 +1,20 @@
 //! What is said where no node is found: which come near.
 
-ghost use Rattle.std.specs.Prelude.{◌≡◌, All, IfOk, OnOk, codes, option_copied, option_map, string_bytes};
+ghost use Rattle.std.specs.Prelude.{◌≡◌, All, IfOk, OnOk, codes, map, option_copied, option_map, string_bytes};
 ghost use Rattle.std.specs.Io.KnownBytes.{Appends};
-ghost use Rattle.model.specs.World.{IsNode};
 ghost use Rattle.views.specs.Nodes.{world_at, id_at};
 ghost use Rattle.hidden_texts.specs.Known.{AreRight};
 ghost use Rattle.hidden_texts.specs.Shown.{shown_value};
-ghost use Rattle.find.specs.Found.{found};
+ghost use Rattle.find.specs.Found.{found, shown_from};
 ghost use Rattle.find.specs.Near.{hints, like_lines, near_line, near_lines, near_text, role_lines, sought_text, value_text, with_role_of, with_text_like};
+ghost use Rattle.find.specs.Viewed.{AreNodes};
 ghost use Rattle.find.specs.Wanted.{sought_of};
 
 use crate::report::names::{write_in_quotes, write_name};
-use crate::search::found_ids;
+use crate::search::wanted_among;
 use crate::sought_texts::value_shown;
-use crate::wanted::{Roles, Wanted};
-use accesskit_consumer::node::{FullNodeId, NodeRef};
+use crate::wanted::{Roles, Wanted, When};
+use accesskit_consumer::node::NodeRef;
 use atree_script::{ShownId, Stop};
 use hidden_texts::Passwords;
 use matching::Matching;
@@ -49,6 +49,7 @@ fn with_text_like(alloc: Global, text: &str) -> Result<Wanted, AllocError>
             is_exact: false,
         },
         any_number: false,
+        when: When::AtEnd,
     })
 }
 
@@ -64,6 +65,7 @@ fn with_role_of(wanted: &Wanted) -> Wanted
         any: None,
         matching: wanted.matching,
         any_number: wanted.any_number,
+        when: wanted.when,
     }
 }
 
@@ -106,20 +108,19 @@ fn write_near_line<O: Write>(
     Ok(())
 }
 
-/// Writes a line about the node with this id.
+/// Writes a line about a node of the tree.
 fn write_near<O: Write>(
     alloc: Global,
     passwords: &Passwords,
     top: NodeRef,
-    id: FullNodeId,
+    node: NodeRef,
     how: &str,
     out: &mut O,
 ) -> Result<(), Stop>
-    requires node { IsNode (world_at top) id }
+    requires world { world_at node ≡ world_at top }
     requires known { AreRight (world_at top) passwords.now }
-    ensures { OnOk result (Appends (O.contents out.old) (O.contents out.new) (near_line how.now (world_at top.entry) id)) }
+    ensures { OnOk result (Appends (O.contents out.old) (O.contents out.new) (near_line how.now (world_at top.entry) (id_at node.entry))) }
 {
-    let node = top.tree_state().node_by_id(id).unwrap();
     write_near_line(alloc, passwords, node, how, out)
 }
 
@@ -128,29 +129,31 @@ fn write_all_near<O: Write>(
     alloc: Global,
     passwords: &Passwords,
     top: NodeRef,
-    ids: &[FullNodeId],
+    nodes: &[NodeRef<'_>],
     how: &str,
     out: &mut O,
 ) -> Result<(), Stop>
-    requires nodes { All (λ id. IsNode (world_at top) id) ids.now }
+    requires world { All (λ n. world_at n ≡ world_at top) nodes.now }
     requires known { AreRight (world_at top) passwords.now }
-    ensures { OnOk result (Appends (O.contents out.old) (O.contents out.new) (near_lines how.now (world_at top.entry) ids.now)) }
+    ensures { OnOk result (Appends (O.contents out.old) (O.contents out.new) (near_lines how.now (world_at top.entry) (map id_at nodes.now))) }
 {
-    for id in ids {
-        write_near(alloc, passwords, top, *id, how, out)?;
+    for node in nodes {
+        write_near(alloc, passwords, top, *node, how, out)?;
     }
     Ok(())
 }
 
-/// Writes a line about each node with a text like the sought one, if one is sought.
+/// Writes a line about each of the nodes shown with a text like the sought one, if one is sought.
 fn write_like<O: Write>(
     alloc: Global,
     passwords: &Passwords,
     top: NodeRef,
+    shown: &[NodeRef<'_>],
     text: Option<&str>,
     out: &mut O,
 ) -> Result<(), Stop>
-    requires { AreRight (world_at top) passwords.now }
+    requires known { AreRight (world_at top) passwords.now }
+    requires shown { AreNodes (world_at top) (shown_from (world_at top) (id_at top)) shown.now }
     ensures { OnOk result (Appends (O.contents out.old) (O.contents out.new)
         (like_lines (world_at top.entry) (id_at top.entry) (option_copied text.entry))) }
 {
@@ -158,24 +161,26 @@ fn write_like<O: Write>(
         return Ok(());
     };
     let wanted = with_text_like(alloc, text)?;
-    write_found(alloc, passwords, top, &wanted, "like ", out)
+    write_found(alloc, passwords, top, shown, &wanted, "like ", out)
 }
 
-/// Writes a line about each node with the role and the level.
+/// Writes a line about each of the nodes shown with the role and the level.
 fn write_of_role<O: Write>(
     alloc: Global,
     passwords: &Passwords,
     top: NodeRef,
+    shown: &[NodeRef<'_>],
     wanted: &Wanted,
     out: &mut O,
 ) -> Result<(), Stop>
-    requires { AreRight (world_at top) passwords.now }
+    requires known { AreRight (world_at top) passwords.now }
+    requires shown { AreNodes (world_at top) (shown_from (world_at top) (id_at top)) shown.now }
     ensures { let w = world_at top.entry in
         OnOk result (Appends (O.contents out.old) (O.contents out.new)
         (near_lines (codes "role ") w (found (with_role_of (sought_of wanted.now)) w (id_at top.entry)))) }
 {
     let with_role = with_role_of(wanted);
-    write_found(alloc, passwords, top, &with_role, "role ", out)
+    write_found(alloc, passwords, top, shown, &with_role, "role ", out)
 }
 
 /// The same, if roles are sought.
@@ -183,68 +188,76 @@ fn write_with_role<O: Write>(
     alloc: Global,
     passwords: &Passwords,
     top: NodeRef,
+    shown: &[NodeRef<'_>],
     wanted: &Wanted,
     out: &mut O,
 ) -> Result<(), Stop>
-    requires { AreRight (world_at top) passwords.now }
+    requires known { AreRight (world_at top) passwords.now }
+    requires shown { AreNodes (world_at top) (shown_from (world_at top) (id_at top)) shown.now }
     ensures { OnOk result (Appends (O.contents out.old) (O.contents out.new)
         (role_lines wanted.now.roles (sought_of wanted.now) (world_at top.entry) (id_at top.entry))) }
 {
     match wanted.roles {
-        Roles::One(_) => write_of_role(alloc, passwords, top, wanted, out),
-        Roles::Aria(_) => write_of_role(alloc, passwords, top, wanted, out),
+        Roles::One(_) => write_of_role(alloc, passwords, top, shown, wanted, out),
+        Roles::Aria(_) => write_of_role(alloc, passwords, top, shown, wanted, out),
         Roles::Any => Ok(()),
     }
 }
 
-/// Writes a line about each node that is found.
+/// Writes a line about each of the nodes shown that fits.
 fn write_found<O: Write>(
     alloc: Global,
     passwords: &Passwords,
     top: NodeRef,
+    shown: &[NodeRef<'_>],
     wanted: &Wanted,
     how: &str,
     out: &mut O,
 ) -> Result<(), Stop>
-    requires { AreRight (world_at top) passwords.now }
+    requires known { AreRight (world_at top) passwords.now }
+    requires shown { AreNodes (world_at top) (shown_from (world_at top) (id_at top)) shown.now }
     ensures { let w = world_at top.entry in
         OnOk result (Appends (O.contents out.old) (O.contents out.new) (near_lines how.now w (found (sought_of wanted.now) w (id_at top.entry)))) }
 {
-    let ids = found_ids(alloc, passwords, top, wanted)?;
-    write_all_near(alloc, passwords, top, &ids, how, out)
+    let nodes = wanted_among(alloc, passwords, top, shown, wanted)?;
+    write_all_near(alloc, passwords, top, &nodes, how, out)
 }
 
-/// Writes which nodes come near to what is searched for.
+/// Writes which of the nodes shown come near to what is searched for.
 fn write_hints<O: Write>(
     alloc: Global,
     passwords: &Passwords,
     top: NodeRef,
+    shown: &[NodeRef<'_>],
     wanted: &Wanted,
     out: &mut O,
 ) -> Result<(), Stop>
-    requires { AreRight (world_at top) passwords.now }
+    requires known { AreRight (world_at top) passwords.now }
+    requires shown { AreNodes (world_at top) (shown_from (world_at top) (id_at top)) shown.now }
     ensures { OnOk result (Appends (O.contents out.old) (O.contents out.new)
         (near_text (sought_of wanted.now) (world_at top.entry) (id_at top.entry))) }
 {
-    write_like(alloc, passwords, top, sought_text(wanted), out)?;
-    write_with_role(alloc, passwords, top, wanted, out)
+    write_like(alloc, passwords, top, shown, sought_text(wanted), out)?;
+    write_with_role(alloc, passwords, top, shown, wanted, out)
 }
 
-/// Writes which nodes come near, where these are what was found and none is.
+/// Writes which of the nodes shown come near, where these are what was found and none is.
 pub(crate) fn write_if_none<O: Write>(
     alloc: Global,
     passwords: &Passwords,
     top: NodeRef,
+    shown: &[NodeRef<'_>],
     wanted: &Wanted,
-    ids: &[FullNodeId],
+    found: &[NodeRef<'_>],
     out: &mut O,
 ) -> Result<(), Stop>
-    requires { AreRight (world_at top) passwords.now }
+    requires known { AreRight (world_at top) passwords.now }
+    requires shown { AreNodes (world_at top) (shown_from (world_at top) (id_at top)) shown.now }
     ensures { OnOk result (Appends (O.contents out.old) (O.contents out.new)
-        (hints (sought_of wanted.now) (world_at top.entry) (id_at top.entry) ids.now)) }
+        (hints (sought_of wanted.now) (world_at top.entry) (id_at top.entry) (map id_at found.now))) }
 {
-    match ids {
-        [] => write_hints(alloc, passwords, top, wanted, out),
+    match found {
+        [] => write_hints(alloc, passwords, top, shown, wanted, out),
         [_, ..] => Ok(()),
     }
 }

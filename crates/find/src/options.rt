@@ -19,6 +19,8 @@ pub(crate) enum Flag {
     Exact,
     /// One or more nodes may be found.
     AnyNumber,
+    /// The tree after each update is searched.
+    Every,
 }
 
 /// An option with a word after it.
@@ -28,6 +30,8 @@ pub(crate) enum Setting {
     Text,
     Any,
     Level,
+    /// The tree after the update with a number is searched.
+    At,
 }
 
 /// An option.
@@ -41,15 +45,17 @@ pub(crate) enum Switch {
 pub(crate) type NamedSwitch = (&'static str, Switch);
 
 /// The table that [`options`] returns.
-static OPTIONS: [NamedSwitch; 8] = [
+static OPTIONS: [NamedSwitch; 10] = [
     ("--contains", Switch::Flag(Flag::Contains)),
     ("--ignore-case", Switch::Flag(Flag::IgnoreCase)),
     ("--exact", Switch::Flag(Flag::Exact)),
     ("--any-number", Switch::Flag(Flag::AnyNumber)),
+    ("--every", Switch::Flag(Flag::Every)),
     ("--label", Switch::Setting(Setting::Label)),
     ("--text", Switch::Setting(Setting::Text)),
     ("--any", Switch::Setting(Setting::Any)),
     ("--level", Switch::Setting(Setting::Level)),
+    ("--at", Switch::Setting(Setting::At)),
 ];
 
 /// The options, by their names.
@@ -84,17 +90,19 @@ pub(crate) fn option_named(name: &str) -> Option<Switch>
 }
 
 /// The names of the options.
-static NAMES: [&str; 10] = [
+static NAMES: [&str; 12] = [
     "--help",
     "--version",
     "--contains",
     "--ignore-case",
     "--exact",
     "--any-number",
+    "--every",
     "--label",
     "--text",
     "--any",
     "--level",
+    "--at",
 ];
 
 /// The names of all options, those that every program has before the others.

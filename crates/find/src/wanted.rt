@@ -20,6 +20,17 @@ pub(crate) enum Roles {
     Any,
 }
 
+/// In which of a script's trees is searched.
+#[derive(Clone, Copy)]
+pub(crate) enum When {
+    /// In the one that the script leaves.
+    AtEnd,
+    /// In the one after the update with this number.
+    After(u64),
+    /// In the one after each update.
+    Each,
+}
+
 /// What is searched for: what a node has to have. Of what isn't asked for it is `None`.
 #[derive(Drop)]
 pub(crate) struct Wanted {
@@ -35,6 +46,7 @@ pub(crate) struct Wanted {
     pub(crate) matching: Matching,
     /// Whether one or more nodes may be found, in place of exactly one.
     pub(crate) any_number: bool,
+    pub(crate) when: When,
 }
 
 /// Whether a role is one of these.

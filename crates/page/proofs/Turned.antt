@@ -38,16 +38,16 @@ none_came s t e = ([], ap outcomes e ∙ sym (append-nil (outcomes s)))
 abbrev done : Result Unit Stop
 done = Ok tt
 
-ran_came : (title : List ℕ) (s : Shown) (old : World) (c : Command) (new : World) (d : Unit) (t : Shown) (cause : Option Cause) →
-    MatchOption cause ((new ≡ old) × (t ≡ s) × (Ok d ≡ done)) (λ cause. ShowsTurn title cause s old c new (Ok d) t) → Came s t
-ran_came title s old c new d t None h = none_came s t h.1
-ran_came title s old c new d t (Some cause) h =
+ran_came : (title : List ℕ) (line : ℕ) (s : Shown) (old : World) (c : Command) (new : World) (d : Unit) (t : Shown) (cause : Option Cause) →
+    MatchOption cause ((new ≡ old) × (t ≡ s) × (Ok d ≡ done)) (λ cause. ShowsTurn title line cause s old c new (Ok d) t) → Came s t
+ran_came title line s old c new d t None h = none_came s t h.1
+ran_came title line s old c new d t (Some cause) h =
     let notes = h.shows.0.shown.notes in (outcome_in notes.state ∷ [], one_more s.0.states t.0.states notes.state notes.states)
 
 turn_came : (s : Shown) (turn : Turn) (d : Unit) (t : Shown) → Shows s turn (Ok d) t → Came s t
 turn_came s (TreeBegun comment w) d t h = let notes = h.0.shown.opens.notes in (outcome_in notes.state ∷ [], one_more s.0.states t.0.states notes.state notes.states)
-turn_came s (FirstRefused comment why) d t h = let notes = h.0.shown.notes in (outcome_in notes.state ∷ [], one_more s.0.states t.0.states notes.state notes.states)
-turn_came s (Ran comment old c new) d t h = ran_came comment s old c new d t (cause_of old.host_focused s.0.updates c) h
+turn_came s (FirstRefused comment line why) d t h = let notes = h.0.shown.notes in (outcome_in notes.state ∷ [], one_more s.0.states t.0.states notes.state notes.states)
+turn_came s (Ran comment line old c new) d t h = ran_came comment line s old c new d t (cause_of old.host_focused s.0.updates c) h
 turn_came s (Asked old q new) d t h = none_came s t h.1
 turn_came s (Printed w) d t h = none_came s t h.0
 
@@ -62,14 +62,14 @@ by_tree : {A : Type 0} {B : List TurnTaken → Type 0} {C : World → Type 0} {D
 by_tree None without with_one h = without h
 by_tree (Some w) without with_one h = with_one w h
 
-first_taken : (host : Bool) (s : Shown) (xs : List TurnTaken) (text : List ℕ) (u : TreeUpdate) (r : Result Unit Stop) (new : Stage) (t : Shown) → SendsFirst Shows host s text u r new t →
-    (ys : List TurnTaken) × SendsFirst Takes host (s, xs) text u r new (t, ys)
-first_taken host s xs text u r new t (inl h) = let k = takes s (TreeBegun text h.0) r t h.3 xs in (k.0, inl (h.0, h.1, h.2, k.1))
-first_taken host s xs text u r new t (inr h) = let k = takes s (FirstRefused text h.0) r t h.3 xs in (k.0, inr (h.0, h.1, h.2, k.1))
+first_taken : (host : Bool) (s : Shown) (xs : List TurnTaken) (text : List ℕ) (line : ℕ) (u : TreeUpdate) (r : Result Unit Stop) (new : Stage) (t : Shown) → SendsFirst Shows host s text line u r new t →
+    (ys : List TurnTaken) × SendsFirst Takes host (s, xs) text line u r new (t, ys)
+first_taken host s xs text line u r new t (inl h) = let k = takes s (TreeBegun text h.0) r t h.3 xs in (k.0, inl (h.0, h.1, h.2, k.1))
+first_taken host s xs text line u r new t (inr h) = let k = takes s (FirstRefused text line h.0) r t h.3 xs in (k.0, inr (h.0, h.1, h.2, k.1))
 
-run_taken : (host : Bool) (s : Shown) (xs : List TurnTaken) (text : List ℕ) (c : Command) (r : Result Unit Stop) (new : Stage) (t : Shown) (w : World) → RunsOn Shows host s text c r new t w →
-    (ys : List TurnTaken) × RunsOn Takes host (s, xs) text c r new (t, ys) w
-run_taken host s xs text c r new t w h = let k = takes s (Ran text w c h.0) r t h.2 xs in (k.0, (h.0, h.1, k.1))
+run_taken : (host : Bool) (s : Shown) (xs : List TurnTaken) (text : List ℕ) (line : ℕ) (c : Command) (r : Result Unit Stop) (new : Stage) (t : Shown) (w : World) → RunsOn Shows host s text line c r new t w →
+    (ys : List TurnTaken) × RunsOn Takes host (s, xs) text line c r new (t, ys) w
+run_taken host s xs text line c r new t w h = let k = takes s (Ran text line w c h.0) r t h.2 xs in (k.0, (h.0, h.1, k.1))
 
 abbrev taken_with : Shown → List TurnTaken → Taken
 taken_with s xs = (s, xs)
@@ -79,12 +79,12 @@ no_turn : (host : Bool) (s : Shown) (xs : List TurnTaken) (r : Result Unit Stop)
     (ys : List TurnTaken) × ((r ≡ Ok tt) × (new ≡ record { world = None; host = host }) × (taken_with t ys ≡ taken_with s xs))
 no_turn host s xs r new t h = (xs, (h.0, h.1, λ i. taken_with (h.2 i) xs))
 
-carried_taken : (old : Stage) (s : Shown) (xs : List TurnTaken) (text : List ℕ) (c : ScriptCommand) (r : Result Unit Stop) (new : Stage) (t : Shown) → CarriesOut Shows old s text c r new t →
-    (ys : List TurnTaken) × CarriesOut Takes old (s, xs) text c r new (t, ys)
-carried_taken old s xs text (script.Update u) r new t h = by_tree old.world (first_taken old.host s xs text u r new t) (run_taken old.host s xs text (command.Update u) r new t) h
-carried_taken old s xs text (script.HostFocus host) r new t h = by_tree old.world (no_turn host s xs r new t) (run_taken host s xs text (command.HostFocus host) r new t) h
-carried_taken old s xs text script.Print r new t h = let k = takes s (Printed old.world) r t h.1 xs in (k.0, (h.0, k.1))
-carried_taken old s xs text (script.Query q) r new t h = let k = takes s (Asked old.world q h.0) r t h.2 xs in (k.0, (h.0, h.1, k.1))
+carried_taken : (old : Stage) (s : Shown) (xs : List TurnTaken) (text : List ℕ) (line : ℕ) (c : ScriptCommand) (r : Result Unit Stop) (new : Stage) (t : Shown) → CarriesOut Shows old s text line c r new t →
+    (ys : List TurnTaken) × CarriesOut Takes old (s, xs) text line c r new (t, ys)
+carried_taken old s xs text line (script.Update u) r new t h = by_tree old.world (first_taken old.host s xs text line u r new t) (run_taken old.host s xs text line (command.Update u) r new t) h
+carried_taken old s xs text line (script.HostFocus host) r new t h = by_tree old.world (no_turn host s xs r new t) (run_taken host s xs text line (command.HostFocus host) r new t) h
+carried_taken old s xs text line script.Print r new t h = let k = takes s (Printed old.world) r t h.1 xs in (k.0, (h.0, k.1))
+carried_taken old s xs text line (script.Query q) r new t h = let k = takes s (Asked old.world q h.0) r t h.2 xs in (k.0, (h.0, h.1, k.1))
 
 abbrev with_turns : Stage × Shown → List TurnTaken → Stage × Taken
 with_turns a xs = (a.0, (a.1, xs))
@@ -92,7 +92,7 @@ with_turns a xs = (a.0, (a.1, xs))
 all_taken : (a b : Stage × Shown) (xs : List TurnTaken) (cs : List Commented) → FoldsTo (GoesOn Shows) a cs b → (ys : List TurnTaken) × FoldsTo (GoesOn Takes) (with_turns a xs) cs (with_turns b ys)
 all_taken a b xs [] h = (xs, λ i. with_turns (h i) xs)
 all_taken a b xs (c ∷ cs) h =
-    let k = carried_taken a.0 a.1 xs c.comment c.command (Ok tt) h.0.0 h.0.1 h.1 in
+    let k = carried_taken a.0 a.1 xs c.comment c.line c.command (Ok tt) h.0.0 h.0.1 h.1 in
     let rest = all_taken h.0 b k.0 cs h.2 in
     (rest.0, (with_turns h.0 k.0, k.1, rest.1))
 
@@ -101,7 +101,7 @@ pub turns_taken : (input : Option Place) (a b : Stage × Shown) (xs : List TurnT
 turns_taken input a b xs cs ended number (inl h) = let k = all_taken a b xs cs h.0 in (k.0, inl (k.1, h.1))
 turns_taken input a b xs cs ended number (inr (h, reads)) =
     let k = all_taken a h.between xs h.earlier h.before in
-    let l = carried_taken h.between.0 h.between.1 k.0 h.last.comment h.last.command ended b.0 b.1 h.carried in (
+    let l = carried_taken h.between.0 h.between.1 k.0 h.last.comment h.last.line h.last.command ended b.0 b.1 h.carried in (
       l.0,
       inr (
         record {
@@ -133,19 +133,19 @@ either_way : {A : Type 0} {C : World → Type 0} {D : Type 0} (o : Option World)
 either_way None without with_one h = without h
 either_way (Some w) without with_one h = with_one w h
 
-first_went : (host : Bool) (s : Taken) (text : List ℕ) (u : TreeUpdate) (new : Stage) (t : Taken) → SendsFirst Takes host s text u (Ok tt) new t → Went s t
-first_went host s text u new t (inl h) = one_went s (TreeBegun text h.0) t h.3
-first_went host s text u new t (inr h) = one_went s (FirstRefused text h.0) t h.3
+first_went : (host : Bool) (s : Taken) (text : List ℕ) (line : ℕ) (u : TreeUpdate) (new : Stage) (t : Taken) → SendsFirst Takes host s text line u (Ok tt) new t → Went s t
+first_went host s text line u new t (inl h) = one_went s (TreeBegun text h.0) t h.3
+first_went host s text line u new t (inr h) = one_went s (FirstRefused text line h.0) t h.3
 
-run_went : (host : Bool) (s : Taken) (text : List ℕ) (c : Command) (new : Stage) (t : Taken) (w : World) → RunsOn Takes host s text c (Ok tt) new t w → Went s t
-run_went host s text c new t w h = one_went s (Ran text w c h.0) t h.2
+run_went : (host : Bool) (s : Taken) (text : List ℕ) (line : ℕ) (c : Command) (new : Stage) (t : Taken) (w : World) → RunsOn Takes host s text line c (Ok tt) new t w → Went s t
+run_went host s text line c new t w h = one_went s (Ran text line w c h.0) t h.2
 
-carried_went : (old : Stage) (s : Taken) (text : List ℕ) (c : ScriptCommand) (new : Stage) (t : Taken) → CarriesOut Takes old s text c (Ok tt) new t → Went s t
-carried_went old s text (script.Update u) new t h = either_way old.world (first_went old.host s text u new t) (run_went old.host s text (command.Update u) new t) h
-carried_went old s text (script.HostFocus host) new t h =
-    either_way old.world (λ (k : (done ≡ done) × (new ≡ record { world = None; host = host }) × (t ≡ s)). no_more s t k.2) (run_went host s text (command.HostFocus host) new t) h
-carried_went old s text script.Print new t h = one_went s (Printed old.world) t h.1
-carried_went old s text (script.Query q) new t h = one_went s (Asked old.world q h.0) t h.2
+carried_went : (old : Stage) (s : Taken) (text : List ℕ) (line : ℕ) (c : ScriptCommand) (new : Stage) (t : Taken) → CarriesOut Takes old s text line c (Ok tt) new t → Went s t
+carried_went old s text line (script.Update u) new t h = either_way old.world (first_went old.host s text line u new t) (run_went old.host s text line (command.Update u) new t) h
+carried_went old s text line (script.HostFocus host) new t h =
+    either_way old.world (λ (k : (done ≡ done) × (new ≡ record { world = None; host = host }) × (t ≡ s)). no_more s t k.2) (run_went host s text line (command.HostFocus host) new t) h
+carried_went old s text line script.Print new t h = one_went s (Printed old.world) t h.1
+carried_went old s text line (script.Query q) new t h = one_went s (Asked old.world q h.0) t h.2
 
 joined : (xs ys : List TurnTaken) (s m t : Shown) → FoldsTo ShowsTaken s xs m → FoldsTo ShowsTaken m ys t → FoldsTo ShowsTaken s (xs ++ ys) t
 joined [] ys s m t h g = subst (λ (x : Shown). FoldsTo ShowsTaken x ys t) (sym h) g
@@ -154,7 +154,7 @@ joined (x ∷ xs) ys s m t h g = (h.0, h.1, joined xs ys h.0 m t h.2 g)
 all_went : (a b : Stage × Taken) (cs : List Commented) → FoldsTo (GoesOn Takes) a cs b → Went a.1 b.1
 all_went a b [] h = no_more a.1 b.1 (ap (λ (x : Stage × Taken). x.1) (sym h))
 all_went a b (c ∷ cs) h =
-    let one = carried_went a.0 a.1 c.comment c.command h.0.0 h.0.1 h.1 in
+    let one = carried_went a.0 a.1 c.comment c.line c.command h.0.0 h.0.1 h.1 in
     let rest = all_went h.0 b cs h.2 in (
       one.0 ++ rest.0,
       rest.1 ∙ ap (λ (xs : List TurnTaken). xs ++ rest.0) one.1 ∙ append_assoc a.1.1 one.0 rest.0,
@@ -173,31 +173,31 @@ or_stopped stop (inr h) = inr h.0
 goes_on : {A : Type 0} (stop : Stop) → Err stop ≡ done → A
 goes_on stop e = let no : ⊥ = cc in absurd no
 
-ran_stopped : (title : List ℕ) (s : Shown) (old : World) (c : Command) (new : World) (t : Shown) (stop : Stop) (cause : Option Cause) →
-    MatchOption cause ((new ≡ old) × (t ≡ s) × (Err stop ≡ done)) (λ cause. ShowsTurn title cause s old c new (Err stop) t) → Stopped stop
-ran_stopped title s old c new t stop None h = goes_on stop h.2
-ran_stopped title s old c new t stop (Some cause) h = or_stopped stop h.shows
+ran_stopped : (title : List ℕ) (line : ℕ) (s : Shown) (old : World) (c : Command) (new : World) (t : Shown) (stop : Stop) (cause : Option Cause) →
+    MatchOption cause ((new ≡ old) × (t ≡ s) × (Err stop ≡ done)) (λ cause. ShowsTurn title line cause s old c new (Err stop) t) → Stopped stop
+ran_stopped title line s old c new t stop None h = goes_on stop h.2
+ran_stopped title line s old c new t stop (Some cause) h = or_stopped stop h.shows
 
 shows_stopped : (s : Shown) (turn : Turn) (stop : Stop) (t : Shown) → Shows s turn (Err stop) t → Stopped stop
 shows_stopped s (TreeBegun comment w) stop t h = or_stopped stop h
-shows_stopped s (FirstRefused comment why) stop t h = or_stopped stop h
-shows_stopped s (Ran comment old c new) stop t h = ran_stopped comment s old c new t stop (cause_of old.host_focused s.0.updates c) h
+shows_stopped s (FirstRefused comment line why) stop t h = or_stopped stop h
+shows_stopped s (Ran comment line old c new) stop t h = ran_stopped comment line s old c new t stop (cause_of old.host_focused s.0.updates c) h
 shows_stopped s (Asked old q new) stop t h = goes_on stop h.2
 shows_stopped s (Printed w) stop t h = goes_on stop h.1
 
-first_stopped : (host : Bool) (s : Taken) (text : List ℕ) (u : TreeUpdate) (stop : Stop) (new : Stage) (t : Taken) → SendsFirst Takes host s text u (Err stop) new t → Stopped stop
-first_stopped host s text u stop new t (inl h) = shows_stopped s.0 (TreeBegun text h.0) stop t.0 h.3.0
-first_stopped host s text u stop new t (inr h) = shows_stopped s.0 (FirstRefused text h.0) stop t.0 h.3.0
+first_stopped : (host : Bool) (s : Taken) (text : List ℕ) (line : ℕ) (u : TreeUpdate) (stop : Stop) (new : Stage) (t : Taken) → SendsFirst Takes host s text line u (Err stop) new t → Stopped stop
+first_stopped host s text line u stop new t (inl h) = shows_stopped s.0 (TreeBegun text h.0) stop t.0 h.3.0
+first_stopped host s text line u stop new t (inr h) = shows_stopped s.0 (FirstRefused text line h.0) stop t.0 h.3.0
 
-on_stopped : (host : Bool) (s : Taken) (text : List ℕ) (c : Command) (stop : Stop) (new : Stage) (t : Taken) (w : World) → RunsOn Takes host s text c (Err stop) new t w → Stopped stop
-on_stopped host s text c stop new t w h = shows_stopped s.0 (Ran text w c h.0) stop t.0 h.2.0
+on_stopped : (host : Bool) (s : Taken) (text : List ℕ) (line : ℕ) (c : Command) (stop : Stop) (new : Stage) (t : Taken) (w : World) → RunsOn Takes host s text line c (Err stop) new t w → Stopped stop
+on_stopped host s text line c stop new t w h = shows_stopped s.0 (Ran text line w c h.0) stop t.0 h.2.0
 
-carried_stopped : (old : Stage) (s : Taken) (text : List ℕ) (c : ScriptCommand) (stop : Stop) (new : Stage) (t : Taken) → CarriesOut Takes old s text c (Err stop) new t → Stopped stop
-carried_stopped old s text (script.Update u) stop new t h = either_way old.world (first_stopped old.host s text u stop new t) (on_stopped old.host s text (command.Update u) stop new t) h
-carried_stopped old s text (script.HostFocus host) stop new t h =
-    either_way old.world (λ (k : (Err stop ≡ done) × (new ≡ record { world = None; host = host }) × (t ≡ s)). goes_on stop k.0) (on_stopped host s text (command.HostFocus host) stop new t) h
-carried_stopped old s text script.Print stop new t h = shows_stopped s.0 (Printed old.world) stop t.0 h.1.0
-carried_stopped old s text (script.Query q) stop new t h = shows_stopped s.0 (Asked old.world q h.0) stop t.0 h.2.0
+carried_stopped : (old : Stage) (s : Taken) (text : List ℕ) (line : ℕ) (c : ScriptCommand) (stop : Stop) (new : Stage) (t : Taken) → CarriesOut Takes old s text line c (Err stop) new t → Stopped stop
+carried_stopped old s text line (script.Update u) stop new t h = either_way old.world (first_stopped old.host s text line u stop new t) (on_stopped old.host s text line (command.Update u) stop new t) h
+carried_stopped old s text line (script.HostFocus host) stop new t h =
+    either_way old.world (λ (k : (Err stop ≡ done) × (new ≡ record { world = None; host = host }) × (t ≡ s)). goes_on stop k.0) (on_stopped host s text line (command.HostFocus host) stop new t) h
+carried_stopped old s text line script.Print stop new t h = shows_stopped s.0 (Printed old.world) stop t.0 h.1.0
+carried_stopped old s text line (script.Query q) stop new t h = shows_stopped s.0 (Asked old.world q h.0) stop t.0 h.2.0
 
 -- where neither want of memory nor a failed output ended it, all its commands were carried out
 not_so : (ended : Result Unit Stop) (stop : Stop) → ended ≢ Err Memory → ended ≢ Err WriteFault → ended ≡ Err stop → Stopped stop → ⊥
@@ -208,6 +208,6 @@ pub played_through : (input : Option Place) (a b : Stage × Taken) (cs : List Co
     Plays Takes input a cs ended number b → Went a.1 b.1
 played_through input a b cs ended number some out (inl h) = all_went a b cs h.0
 played_through input a b cs ended number some out (inr (h, reads)) =
-    let carried : CarriesOut Takes h.between.0 h.between.1 h.last.comment h.last.command (Err h.stop) b.0 b.1 =
-    subst (λ (r : Result Unit Stop). CarriesOut Takes h.between.0 h.between.1 h.last.comment h.last.command r b.0 b.1) h.stopped h.carried in
-    absurd (not_so ended h.stop some out h.stopped (carried_stopped h.between.0 h.between.1 h.last.comment h.last.command h.stop b.0 b.1 carried))
+    let carried : CarriesOut Takes h.between.0 h.between.1 h.last.comment h.last.line h.last.command (Err h.stop) b.0 b.1 =
+    subst (λ (r : Result Unit Stop). CarriesOut Takes h.between.0 h.between.1 h.last.comment h.last.line h.last.command r b.0 b.1) h.stopped h.carried in
+    absurd (not_so ended h.stop some out h.stopped (carried_stopped h.between.0 h.between.1 h.last.comment h.last.line h.last.command h.stop b.0 b.1 carried))

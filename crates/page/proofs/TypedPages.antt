@@ -164,21 +164,21 @@ stayed : (s t u v : Shown) → ShownAlike s u → t ≡ s → v ≡ u → ShownA
 stayed s t u v same h g = subst (λ x. ShownAlike x v) (sym h) (subst (ShownAlike s) (sym g) same)
 
 module _ (p : FullNodeId) where
-  run_same : (title other : List ℕ) → title ≡ other → (old : World) (c : Command) (new former : World) (d : Command) (later : World) → StepAlike p old c new former d later →
+  run_same : (title other : List ℕ) → title ≡ other → (line at : ℕ) → line ≡ at → (old : World) (c : Command) (new former : World) (d : Command) (later : World) → StepAlike p old c new former d later →
       (s t u v : Shown) → ShownAlike s u → map outcome_in t.0.states ≡ map outcome_in v.0.states → (one two : Option Cause) → one ≡ two →
-      MatchOption one ((new ≡ old) × (t ≡ s) × (done ≡ done)) (λ cause. ShowsTurn title cause s old c new done t) →
-      MatchOption two ((later ≡ former) × (v ≡ u) × (done ≡ done)) (λ cause. ShowsTurn other cause u former d later done v) → ShownAlike t v
-  run_same title other titles old c new former d later alike s t u v same came None None causes h g = stayed s t u v same h.1 g.1
-  run_same title other titles old c new former d later alike s t u v same came None (Some two) causes h g = let no : ⊥ = cc in absurd no
-  run_same title other titles old c new former d later alike s t u v same came (Some one) None causes h g = let no : ⊥ = cc in absurd no
-  run_same title other titles old c new former d later alike s t u v same came (Some one) (Some two) causes h g =
+      MatchOption one ((new ≡ old) × (t ≡ s) × (done ≡ done)) (λ cause. ShowsTurn title line cause s old c new done t) →
+      MatchOption two ((later ≡ former) × (v ≡ u) × (done ≡ done)) (λ cause. ShowsTurn other at cause u former d later done v) → ShownAlike t v
+  run_same title other titles line at lines old c new former d later alike s t u v same came None None causes h g = stayed s t u v same h.1 g.1
+  run_same title other titles line at lines old c new former d later alike s t u v same came None (Some two) causes h g = let no : ⊥ = cc in absurd no
+  run_same title other titles line at lines old c new former d later alike s t u v same came (Some one) None causes h g = let no : ⊥ = cc in absurd no
+  run_same title other titles line at lines old c new former d later alike s t u v same came (Some one) (Some two) causes h g =
       let cause : one ≡ two = cc in
       let mine = h.shows.0 in
       let others = g.shows.0 in
       let both = step_same title other titles p one two cause h.outcome g.outcome old c new former d later alike (unwritten s.0) (drawn_of t.0 mine.text) (unwritten u.0) (drawn_of v.0 others.text)
       (none_written s.0 u.0 same.0) mine.shown others.shown came in (
         written_same s.0 t.0 u.0 v.0 mine.text others.text same.0 both.1 mine.written others.written,
-        appended s.1 u.1 t.1 v.1 (report_text one h.outcome) (report_text two g.outcome) (λ i. report_text (cause i) (both.0 i)) same.1 h.shows.1 g.shows.1,
+        appended s.1 u.1 t.1 v.1 (report_text line one h.outcome) (report_text at two g.outcome) (λ i. report_text (lines i) (cause i) (both.0 i)) same.1 h.shows.1 g.shows.1,
       )
 
   one_turn : (turn other : Turn) → TurnAlike p turn other → (s t u v : Shown) → ShownAlike s u → map outcome_in t.0.states ≡ map outcome_in v.0.states → Shows s turn (Ok tt) t → Shows u other (Ok tt) v → ShownAlike t v
@@ -190,43 +190,43 @@ module _ (p : FullNodeId) where
         written_same s.0 t.0 u.0 r.0 mine.text others.text same.0 drawn mine.written others.written,
         subst (λ o. HaveSame o r.1) (sym h.1) (subst (HaveSame s.1) (sym g.1) same.1),
       )
-  one_turn (FirstRefused comment why) (FirstRefused other reason) alike s t u r same came h g =
+  one_turn (FirstRefused comment line why) (FirstRefused other at reason) alike s t u r same came h g =
       let it : Summary = first_summary s.0.updates (Refused why) in
       let its : Summary = first_summary u.0.updates (Refused reason) in
       let mine = h.0 in
       let others = g.0 in
-      let ends : Refused why ≡ Refused reason = came_same comment other alike it its (pages_of s.0.updates s.0.states s.0.kept mine.shown.begun) (drawn_of t.0 mine.text)
+      let ends : Refused why ≡ Refused reason = came_same comment other alike.0 it its (pages_of s.0.updates s.0.states s.0.kept mine.shown.begun) (drawn_of t.0 mine.text)
       (pages_of u.0.updates u.0.states u.0.kept others.shown.begun) (drawn_of r.0 others.text) same.0.states mine.shown.notes others.shown.notes came in
       let sums : it ≡ its = λ i. first_summary (same.0.updates i) (ends i) in
-      let drawn = opens_same comment other alike it its sums (unwritten s.0) (drawn_of t.0 mine.text) (unwritten u.0) (drawn_of r.0 others.text) (none_written s.0 u.0 same.0) mine.shown others.shown in (
+      let drawn = opens_same comment other alike.0 it its sums (unwritten s.0) (drawn_of t.0 mine.text) (unwritten u.0) (drawn_of r.0 others.text) (none_written s.0 u.0 same.0) mine.shown others.shown in (
         written_same s.0 t.0 u.0 r.0 mine.text others.text same.0 drawn mine.written others.written,
-        appended s.1 u.1 t.1 r.1 (report_text it.cause it.outcome) (report_text its.cause its.outcome) (λ i. report_text (sums i).cause (sums i).outcome) same.1 h.1 g.1,
+        appended s.1 u.1 t.1 r.1 (report_text line it.cause it.outcome) (report_text at its.cause its.outcome) (λ i. report_text (alike.1 i) (sums i).cause (sums i).outcome) same.1 h.1 g.1,
       )
-  one_turn (Ran comment old c new) (Ran other former d later) alike s t u r same came h g =
-      let step = alike.1 in
-      run_same comment other alike.0 old c new former d later step s t u r same came (cause_of old.host_focused s.0.updates c) (cause_of former.host_focused u.0.updates d)
+  one_turn (Ran comment line old c new) (Ran other at former d later) alike s t u r same came h g =
+      let step = alike.2 in
+      run_same comment other alike.0 line at alike.1 old c new former d later step s t u r same came (cause_of old.host_focused s.0.updates c) (cause_of former.host_focused u.0.updates d)
       (cause_same c d step.kind old.host_focused former.host_focused (λ i. (outlines_one p old former step.before i).host_focused) s.0.updates u.0.updates same.0.updates) h g
   one_turn (Asked old q new) (Asked former a later) alike s t u r same came h g = stayed s t u r same h.1 g.1
   one_turn (Printed w) (Printed v) alike s t u r same came h g = stayed s t u r same h.0 g.0
-  one_turn (TreeBegun comment w) (FirstRefused other reason) alike s t u r same came h g = absurd alike
-  one_turn (TreeBegun comment w) (Ran other former d later) alike s t u r same came h g = absurd alike
+  one_turn (TreeBegun comment w) (FirstRefused other at reason) alike s t u r same came h g = absurd alike
+  one_turn (TreeBegun comment w) (Ran other at former d later) alike s t u r same came h g = absurd alike
   one_turn (TreeBegun comment w) (Asked former a later) alike s t u r same came h g = absurd alike
   one_turn (TreeBegun comment w) (Printed v) alike s t u r same came h g = absurd alike
-  one_turn (FirstRefused comment why) (TreeBegun other v) alike s t u r same came h g = absurd alike
-  one_turn (FirstRefused comment why) (Ran other former d later) alike s t u r same came h g = absurd alike
-  one_turn (FirstRefused comment why) (Asked former a later) alike s t u r same came h g = absurd alike
-  one_turn (FirstRefused comment why) (Printed v) alike s t u r same came h g = absurd alike
-  one_turn (Ran comment old c new) (TreeBegun other v) alike s t u r same came h g = absurd alike
-  one_turn (Ran comment old c new) (FirstRefused other reason) alike s t u r same came h g = absurd alike
-  one_turn (Ran comment old c new) (Asked former a later) alike s t u r same came h g = absurd alike
-  one_turn (Ran comment old c new) (Printed v) alike s t u r same came h g = absurd alike
+  one_turn (FirstRefused comment line why) (TreeBegun other v) alike s t u r same came h g = absurd alike
+  one_turn (FirstRefused comment line why) (Ran other at former d later) alike s t u r same came h g = absurd alike
+  one_turn (FirstRefused comment line why) (Asked former a later) alike s t u r same came h g = absurd alike
+  one_turn (FirstRefused comment line why) (Printed v) alike s t u r same came h g = absurd alike
+  one_turn (Ran comment line old c new) (TreeBegun other v) alike s t u r same came h g = absurd alike
+  one_turn (Ran comment line old c new) (FirstRefused other at reason) alike s t u r same came h g = absurd alike
+  one_turn (Ran comment line old c new) (Asked former a later) alike s t u r same came h g = absurd alike
+  one_turn (Ran comment line old c new) (Printed v) alike s t u r same came h g = absurd alike
   one_turn (Asked old q new) (TreeBegun other v) alike s t u r same came h g = absurd alike
-  one_turn (Asked old q new) (FirstRefused other reason) alike s t u r same came h g = absurd alike
-  one_turn (Asked old q new) (Ran other former d later) alike s t u r same came h g = absurd alike
+  one_turn (Asked old q new) (FirstRefused other at reason) alike s t u r same came h g = absurd alike
+  one_turn (Asked old q new) (Ran other at former d later) alike s t u r same came h g = absurd alike
   one_turn (Asked old q new) (Printed v) alike s t u r same came h g = absurd alike
   one_turn (Printed w) (TreeBegun other v) alike s t u r same came h g = absurd alike
-  one_turn (Printed w) (FirstRefused other reason) alike s t u r same came h g = absurd alike
-  one_turn (Printed w) (Ran other former d later) alike s t u r same came h g = absurd alike
+  one_turn (Printed w) (FirstRefused other at reason) alike s t u r same came h g = absurd alike
+  one_turn (Printed w) (Ran other at former d later) alike s t u r same came h g = absurd alike
   one_turn (Printed w) (Asked former a later) alike s t u r same came h g = absurd alike
 
 pub typing_makes_the_same_page : TypingMakesTheSamePage

@@ -133,37 +133,37 @@ Stops stop writes s t =
 abbrev pub OrStops : Result Unit Stop → Type 0 → (Adds → Type 0) → Shown → Shown → Type 0
 OrStops result reports writes s t = MatchResult result (λ _. writes Appends × reports) (λ stop. Stops stop writes s t)
 
--- what is reported of a state: of a refused update its number among the updates, and why it is refused
-abbrev pub report_text : Cause → Outcome → List ℕ
-report_text (Update number) (Refused why) = report_line number why
-report_text cause outcome = []
+-- what is reported of a state: of a refused update the line that ends it, its number among the updates, and why it is refused
+abbrev pub report_text : ℕ → Cause → Outcome → List ℕ
+report_text line (Update number) (Refused why) = report_line number line why
+report_text line cause outcome = []
 
 -- a first tree is shown, of which nothing is reported
 abbrev pub ShowsFirst : List ℕ → Summary → World → Shown → Result Unit Stop → Shown → Type 0
 ShowsFirst title it w s result t = OrStops result (t.1 ≡ s.1) (λ adds. Writes (ShowsState title it w) adds s.0 t.0) s t
 
 -- that a first update is refused is shown and reported
-abbrev pub RefusesFirst : List ℕ → Summary → Shown → Result Unit Stop → Shown → Type 0
-RefusesFirst title it s result t =
-    OrStops result (Appends s.1 t.1 (report_text it.cause it.outcome)) (λ adds. Writes (Opens title it) adds s.0 t.0) s t
+abbrev pub RefusesFirst : List ℕ → ℕ → Summary → Shown → Result Unit Stop → Shown → Type 0
+RefusesFirst title line it s result t =
+    OrStops result (Appends s.1 t.1 (report_text line it.cause it.outcome)) (λ adds. Writes (Opens title it) adds s.0 t.0) s t
 
 -- the state that a step makes is shown, and its refusal is reported, if it is refused
-pub record ShowsTurn (title : List ℕ) (cause : Cause) (s : Shown) (old : World) (c : Command) (new : World) (result : Result Unit Stop)
-    (t : Shown) : Type 0 where
+pub record ShowsTurn (title : List ℕ) (line : ℕ) (cause : Cause) (s : Shown) (old : World) (c : Command) (new : World)
+    (result : Result Unit Stop) (t : Shown) : Type 0 where
   pub outcome : Outcome
-  pub shows : OrStops result (Appends s.1 t.1 (report_text cause outcome))
+  pub shows : OrStops result (Appends s.1 t.1 (report_text line cause outcome))
       (λ adds. Writes (λ a b. ShowsStep title cause outcome a old c new b) adds s.0 t.0) s t
 
 -- a command that makes no state shows nothing
-abbrev pub ShowsRun : List ℕ → World → Command → World → Shown → Result Unit Stop → Shown → Type 0
-ShowsRun title old c new s result t =
+abbrev pub ShowsRun : List ℕ → ℕ → World → Command → World → Shown → Result Unit Stop → Shown → Type 0
+ShowsRun title line old c new s result t =
     MatchOption (cause_of old.host_focused s.0.updates c) ((new ≡ old) × (t ≡ s) × (result ≡ Ok tt))
-    (λ cause. ShowsTurn title cause s old c new result t)
+    (λ cause. ShowsTurn title line cause s old c new result t)
 
 -- What a command shows: the comment right before it is the title of the state that it makes. Of a query or a `print` nothing is shown.
 abbrev pub Shows : Shown → Turn → Result Unit Stop → Shown → Type 0
 Shows s (TreeBegun comment w) result t = ShowsFirst comment (first_summary s.0.updates Begun) w s result t
-Shows s (FirstRefused comment why) result t = RefusesFirst comment (first_summary s.0.updates (Refused why)) s result t
-Shows s (Ran comment old c new) result t = ShowsRun comment old c new s result t
+Shows s (FirstRefused comment line why) result t = RefusesFirst comment line (first_summary s.0.updates (Refused why)) s result t
+Shows s (Ran comment line old c new) result t = ShowsRun comment line old c new s result t
 Shows s (Asked old q new) result t = (new ≡ old) × (t ≡ s) × (result ≡ Ok tt)
 Shows s (Printed w) result t = (t ≡ s) × (result ≡ Ok tt)

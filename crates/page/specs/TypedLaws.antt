@@ -55,8 +55,9 @@ pub record StepAlike (p : FullNodeId) (old : World) (c : Command) (new former : 
 
 abbrev pub TurnAlike : FullNodeId → Turn → Turn → Type 0
 TurnAlike p (Begun comment w) (Begun other v) = (comment ≡ other) × IsFormed w × MayDiffer p w v
-TurnAlike p (FirstRefused comment why) (FirstRefused other reason) = comment ≡ other
-TurnAlike p (Ran comment old c new) (Ran other former d later) = (comment ≡ other) × StepAlike p old c new former d later
+TurnAlike p (FirstRefused comment line why) (FirstRefused other at reason) = (comment ≡ other) × (line ≡ at)
+TurnAlike p (Ran comment line old c new) (Ran other at former d later) =
+    (comment ≡ other) × (line ≡ at) × StepAlike p old c new former d later
 TurnAlike p (Asked old q new) (Asked former r later) = ⊤
 TurnAlike p (Printed w) (Printed v) = ⊤
 TurnAlike p turn other = ⊥

@@ -5,7 +5,7 @@ ghost use Rattle.html.specs.Written.{AppendsBeginning};
 ghost use Rattle.page.specs.Heads.{marks_legend, page_head, page_legend, page_top};
 
 use crate::sheet::SHEET;
-use crate::writing::{write_bytes, write_plain};
+use html::{write_bytes, write_plain};
 use std::io::{self, Write};
 
 /// Writes the page up to its first state.

@@ -10,13 +10,12 @@ mod sections;
 mod sheet;
 mod stops;
 mod tally;
-mod writing;
 
-use atree_script::run_without_arguments;
+use atree_script::run_reports_alone;
 use manual::MANUAL;
 use pager::Page;
 use std::process::ExitCode;
 
 fn main(rt: HostRuntime) -> ExitCode {
-    run_without_arguments(&rt, &MANUAL, &Page)
+    run_reports_alone(&rt, &MANUAL, &Page)
 }

@@ -5,11 +5,13 @@ use atree_script::Manual;
 /// What the program says of itself.
 pub(crate) const MANUAL: Manual = Manual {
     name: "page",
-    arguments: "",
+    arguments: " [--strict]",
     option: None,
     help: "\
 Writes an HTML page with each state of a script's tree: the events that led to it, the tree as an outline, and a
-picture of its boxes. The script is read from standard input. There are no arguments.
+picture of its boxes. The script is read from standard input. Refused updates are reported on standard error.
+
+  --strict  end at the first refused update, with status 1
 
 For example:
   bin/page < examples/editor.script > editor.html

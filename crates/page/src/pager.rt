@@ -32,9 +32,9 @@ use crate::sections::{
 };
 use crate::stops::{Ending, end_told, ending_of};
 use crate::tally::Tally;
-use crate::writing::write_bytes;
 use accesskit_consumer::{StateRef, UpdateError};
 use atree_script::{Played, Player, Program, Stop, Streams, end_run, play};
+use html::write_bytes;
 use page_states::{Fault, Kept, Marks, write_state};
 use session::{Command, Query, Session};
 use std::alloc::Global;
@@ -51,7 +51,7 @@ impl Program for Page {
     /// input or an output; 4 if memory runs out while a line is read or a state is written, which is reported on
     /// `errors` too. Unless an output has an error, the page is completed in each case and says why it ended, and of a state
     /// for which memory runs out it shows nothing. Where an output has an error, what is written is a beginning of the
-    /// page. Each refused update is reported on `errors` too, by its number among the updates. If memory runs out in an
+    /// page. Each refused update is reported on `errors` too, by its line and its number among the updates. If memory runs out in an
     /// update, the update is refused and the script goes on.
     fn run<R: BufRead, O: Write, E: Write>(&self, streams: &mut Streams<R, O, E>) -> u8
         ensures bound { result ≤ 4 }
@@ -189,15 +189,21 @@ impl<'a, 'b, O: Write, E: Write> Player for Pager<'a, 'b, O, E> {
     }
 
     /// Shows and reports why the update is refused, also if memory ran out.
-    fn refuse(&mut self, comment: &[u8], refusal: UpdateError) -> Result<(), Stop> {
-        self.refuse_first(comment, refusal)
+    fn refuse(&mut self, comment: &[u8], line: u64, refusal: UpdateError) -> Result<(), Stop> {
+        self.refuse_first(comment, line, refusal)
     }
 
     /// Shows the state that the command makes, and reports a refusal. Setting the host's focus to its current value makes none.
-    fn run(&mut self, comment: &[u8], session: &mut Session, command: Command) -> Result<(), Stop> {
+    fn run(
+        &mut self,
+        comment: &[u8],
+        line: u64,
+        session: &mut Session,
+        command: Command,
+    ) -> Result<(), Stop> {
         let is_host_focused = session.tree().state().is_host_focused();
         match cause_of(&command, is_host_focused, self.updates) {
-            Some(cause) => self.take_turn(comment, cause, session, command),
+            Some(cause) => self.take_turn(comment, line, cause, session, command),
             None => Ok(()),
         }
     }
@@ -229,14 +235,14 @@ impl<'a, 'b, O: Write, E: Write> Pager<'a, 'b, O, E> {
         }
     }
 
-    /// Shows and reports that a first update is refused.
-    fn refuse_first(&mut self, title: &[u8], refusal: UpdateError) -> Result<(), Stop>
+    /// Shows and reports that a first update is refused, which ends on this line.
+    fn refuse_first(&mut self, title: &[u8], line: u64, refusal: UpdateError) -> Result<(), Stop>
         ensures output { self.new.output.ghost_name ≡ self.old.output.ghost_name }
         ensures errors { self.new.errors.ghost_name ≡ self.old.errors.ghost_name }
         ensures shows { let a = self.old in let b = self.new in
             let before = shown_of a.updates a.states.items a.kept (O.contents a.output.now) (E.contents a.errors.now) in
             let after = shown_of b.updates b.states.items b.kept (O.contents b.output.now) (E.contents b.errors.now) in
-            RefusesFirst title.now (first_summary a.updates (Refused refusal)) before result after }
+            RefusesFirst title.now line (first_summary a.updates (Refused refusal)) before result after }
     {
         let it = first_summary(self.updates, Outcome::Refused(refusal));
         let refused = Summary {
@@ -245,15 +251,18 @@ impl<'a, 'b, O: Write, E: Write> Pager<'a, 'b, O, E> {
             tally: it.tally,
         };
         match self.draw_quiet(title, refused) {
-            Ok(text) => write_reported(&text, it.cause, it.outcome, self.output, self.errors),
+            Ok(text) => {
+                write_reported(&text, line, it.cause, it.outcome, self.output, self.errors)
+            }
             Err(_) => Err(Stop::Memory),
         }
     }
 
-    /// Runs a command, shows its events and its state, and reports a refusal.
+    /// Runs a command, which ends on this line, shows its events and its state, and reports a refusal.
     fn take_turn(
         &mut self,
         title: &[u8],
+        line: u64,
         cause: Cause,
         session: &mut Session,
         command: Command,
@@ -263,10 +272,12 @@ impl<'a, 'b, O: Write, E: Write> Pager<'a, 'b, O, E> {
         ensures shows { let a = self.old in let b = self.new in
             let before = shown_of a.updates a.states.items a.kept (O.contents a.output.now) (E.contents a.errors.now) in
             let after = shown_of b.updates b.states.items b.kept (O.contents b.output.now) (E.contents b.errors.now) in
-            ShowsTurn title.now cause before session.old command session.new result after }
+            ShowsTurn title.now line cause before session.old command session.new result after }
     {
         match self.draw_step(title, cause, session, command) {
-            Ok(it) => write_reported(&it.text, cause, it.outcome, self.output, self.errors),
+            Ok(it) => {
+                write_reported(&it.text, line, cause, it.outcome, self.output, self.errors)
+            }
             Err(_) => Err(Stop::Memory),
         }
     }
@@ -407,30 +418,36 @@ fn write_text<O: Write>(text: &[u8], output: &mut O) -> Result<(), Stop>
 /// Writes the text of a state, and reports what came of it, unless the output has an error.
 fn write_reported<O: Write, E: Write>(
     text: &[u8],
+    line: u64,
     cause: Cause,
     outcome: Outcome,
     output: &mut O,
     errors: &mut E,
 ) -> Result<(), Stop>
     ensures written { OnOk result (Appends (O.contents output.old) (O.contents output.new) text.now
-        × Appends (E.contents errors.old) (E.contents errors.new) (report_text cause outcome)) }
+        × Appends (E.contents errors.old) (E.contents errors.new) (report_text line cause outcome)) }
     ensures cut { IfErr result (λ stop. (stop ≡ WriteFault)
         × ((AppendsBeginning (O.contents output.old) (O.contents output.new) text.now × (E.contents errors.new ≡ E.contents errors.old))
         ⊎ Appends (O.contents output.old) (O.contents output.new) text.now)) }
 {
     match write_text(text, output) {
-        Ok(()) => report_outcome(cause, outcome, errors),
+        Ok(()) => report_outcome(line, cause, outcome, errors),
         Err(stop) => Err(stop),
     }
 }
 
-/// Reports what came of a state: of a refused update its number among the updates, and why it is refused.
-fn report_outcome<E: Write>(cause: Cause, outcome: Outcome, errors: &mut E) -> Result<(), Stop>
-    ensures { Writes (report_text cause outcome) (Ok tt) result (E.contents errors.old) (E.contents errors.new) }
+/// Reports what came of a state: of a refused update the line that ends it, its number among the updates, and why it is refused.
+fn report_outcome<E: Write>(
+    line: u64,
+    cause: Cause,
+    outcome: Outcome,
+    errors: &mut E,
+) -> Result<(), Stop>
+    ensures { Writes (report_text line cause outcome) (Ok tt) result (E.contents errors.old) (E.contents errors.new) }
 {
     match (cause, outcome) {
         (Cause::Update(number), Outcome::Refused(refusal)) => {
-            writeln!(errors, "update {number}: {refusal}")?;
+            writeln!(errors, "line {line}, update {number}: {refusal}")?;
             Ok(())
         }
         _ => Ok(()),

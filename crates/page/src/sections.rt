@@ -41,10 +41,9 @@ ghost use Rattle.page.specs.States.{
 
 use crate::stops::Ending;
 use crate::tally::Tally;
-use crate::writing::{write_bytes, write_number, write_plain};
 use accesskit_consumer::UpdateError;
 use atree_script::Stop;
-use html::write_escaped_bytes;
+use html::{write_bytes, write_escaped_bytes, write_number, write_plain};
 use session::{Command, Reply};
 use std::io::{self, Write};
 

@@ -5,14 +5,15 @@ use atree_script::Manual;
 /// What the program says of itself.
 pub(crate) const MANUAL: Manual = Manual {
     name: "read",
-    arguments: " ID TREE",
+    arguments: " [--strict] ID TREE",
     option: None,
     help: "\
 Prints a text of the tree that a script leaves, as a screen reader steps through it: the selection, and each line
 with its words and characters. The script is read from standard input.
 
-  ID      the number of the node that has the text
-  TREE    the tree of that node: root, or a UUID
+  --strict  end at the first refused update, with status 1
+  ID        the number of the node that has the text
+  TREE      the tree of that node: root, or a UUID
 
 For example:
   bin/read 59 root < examples/editor.script

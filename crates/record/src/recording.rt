@@ -1,6 +1,6 @@
 //! Records commands as a script.
 
-use script_lines::{Program, ScriptReader, Stop, Streams, end_run, write_command};
+use script_lines::{Program, ScriptReader, Stop, Streams, end_script_run, write_command};
 use std::io::{BufRead, Write};
 
 /// The program that rewrites the commands of a script. It has no arguments.
@@ -10,8 +10,7 @@ impl Program for Recorder {
     fn run<R: BufRead, O: Write, E: Write>(&self, streams: &mut Streams<R, O, E>) -> u8 {
         let mut script = ScriptReader::new(streams.alloc);
         let ended = record_commands(&mut script, streams);
-        let number = script.line_number();
-        end_run(ended, number, &mut streams.output, &mut streams.errors)
+        end_script_run(ended, &script, &mut streams.output, &mut streams.errors)
     }
 }
 

@@ -39,11 +39,11 @@ BeginsAloud w s result t =
     × SaysAtEnd (first_heading t.numbering) w mirror begun told result s.written t.written
 
 -- there is a speaker since the tree was made, and what it says of a step is written
-abbrev pub StepsAloud : World → Command → World → Aloud → Result Unit Stop → Aloud → Type 0
-StepsAloud old c new s result t =
+abbrev pub StepsAloud : ℕ → World → Command → World → Aloud → Result Unit Stop → Aloud → Type 0
+StepsAloud line old c new s result t =
     MatchOption s.told ((new ≡ old) × SaysNothing s t × (t.reported ≡ s.reported) × (result ≡ Ok tt))
     (λ told. (after : Speaker × Option Records) × (t.told ≡ Some after)
-    × SpokenStep t.numbering old c new told after result s.written t.written s.reported t.reported)
+    × SpokenStep t.numbering line old c new told after result s.written t.written s.reported t.reported)
 
 -- What a command writes. Each update is counted. A refused first update says nothing, and is reported; a query or a `print` says
 -- nothing. No tree begins where there is no memory for its mirror.
@@ -51,9 +51,9 @@ abbrev pub Utters : Aloud → Turn → Result Unit Stop → Aloud → Type 0
 Utters s (Begun comment w) result t =
     (t.numbering ≡ after_one s.numbering) × (t.reported ≡ s.reported) ×
     (((result ≡ Err Memory) × SaysNothing s t) ⊎ BeginsAloud w s result t)
-Utters s (FirstRefused comment why) result t =
-    (t.numbering ≡ after_one s.numbering) × SaysNothing s t × ReportsRefusal t.numbering.updates why result s.reported t.reported
-Utters s (Ran comment old c new) result t = (t.numbering ≡ after_command s.numbering c) × StepsAloud old c new s result t
+Utters s (FirstRefused comment line why) result t =
+    (t.numbering ≡ after_one s.numbering) × SaysNothing s t × ReportsRefusal t.numbering.updates line why result s.reported t.reported
+Utters s (Ran comment line old c new) result t = (t.numbering ≡ after_command s.numbering c) × StepsAloud line old c new s result t
 Utters s (Asked old q new) result t = (new ≡ old) × (t ≡ s) × (result ≡ Ok tt)
 Utters s (Printed w) result t = (t ≡ s) × (result ≡ Ok tt)
 

@@ -79,11 +79,11 @@ SaysAfter heading w (Err stop) s t result before after = (t ≡ s) × (result �
 SaysAfter heading w (Ok done) s t result before after = SaysAtEnd heading w s.1 s.0 t.0 result before after × (t.1 ≡ s.1)
 
 -- both receive the events of a step, a refused update is reported, and what is said of the step is written
-pub record SpokenStep (n : Numbering) (old : World) (c : Command) (new : World) (s t : Speaker × Option Records) (result : Result Unit Stop)
-    (before after told_before told_after : Bytes) : Type 0 where
+pub record SpokenStep (n : Numbering) (line : ℕ) (old : World) (c : Command) (new : World) (s t : Speaker × Option Records)
+    (result : Result Unit Stop) (before after told_before told_after : Bytes) : Type 0 where
   pub between : Speaker × Option Records
   pub reply : Result Reply AllocError
   pub heard : StepsHeard old c new s between reply
   pub goes_on : Result Unit Stop
-  pub reports : ReportsReply n.updates reply goes_on told_before told_after
+  pub reports : ReportsReply n.updates line reply goes_on told_before told_after
   pub says : SaysAfter (heading_after (heading_of n c) reply) new goes_on between t result before after

@@ -30,7 +30,7 @@ pub(crate) struct Speak {
 
 impl Program for Speak {
     /// Runs a script to its end, or until something stops it, and writes what a screen reader would say of it. Refused
-    /// updates are reported on `errors`, each by its number among the updates. Returns the exit status, as for
+    /// updates are reported on `errors`, each by its line and its number among the updates. Returns the exit status, as for
     /// [`atree_script::run_script`]; of a bad line the column is reported too, and what is wrong in it. An update that
     /// runs out of memory ends the run too, since what it would have said is lost. Queries and `print` in the script say
     /// nothing.
@@ -123,16 +123,23 @@ impl<'a, 'b, O: Write, E: Write> Player for Adapter<'a, 'b, O, E> {
     }
 
     /// Reports the refusal. An update that runs out of memory ends the run, since what it would have said is lost.
-    fn refuse(&mut self, _: &[u8], refusal: UpdateError) -> Result<(), Stop> {
+    fn refuse(&mut self, _: &[u8], line: u64, refusal: UpdateError) -> Result<(), Stop> {
         self.numbering = self.numbering.after_one();
-        report_refusal(self.numbering.updates, refusal, self.errors)
+        report_refusal(self.numbering.updates, line, refusal, self.errors)
     }
 
-    fn run(&mut self, _: &[u8], session: &mut Session, command: Command) -> Result<(), Stop> {
+    fn run(
+        &mut self,
+        _: &[u8],
+        line: u64,
+        session: &mut Session,
+        command: Command,
+    ) -> Result<(), Stop> {
         self.numbering = self.numbering.after_command(&command);
         match &mut self.told {
             Some(told) => speak_step(
                 self.numbering,
+                line,
                 session,
                 command,
                 told,
@@ -171,23 +178,24 @@ fn view_of(session: &Session) -> StateRef<'_>
     session.tree().state().view()
 }
 
-/// Runs a command, whose events the speaker and the mirror receive, and writes what is said of it; a refused update is
-/// reported. A mirror that matches the session's tree before matches it afterwards.
+/// Runs a command that ends on this line, whose events the speaker and the mirror receive, and writes what is said of it; a refused
+/// update is reported. A mirror that matches the session's tree before matches it afterwards.
 fn speak_step<O: Write, E: Write>(
     numbering: Numbering,
+    line: u64,
     session: &mut Session,
     command: Command,
     told: &mut (Speaker, Mirror),
     output: &mut O,
     errors: &mut E,
 ) -> Result<(), Stop>
-    ensures spoken { SpokenStep numbering session.old command session.new told.old told.new result (O.contents output.old)
+    ensures spoken { SpokenStep numbering line session.old command session.new told.old told.new result (O.contents output.old)
         (O.contents output.new) (E.contents errors.old) (E.contents errors.new) }
     ensures mirrored { OnOk result (IsSomeAnd told.old.1 (AreRecordsOf session.old) → IfSome told.new.1 (AreRecordsOf session.new)) }
 {
     let heading = numbering.heading_of(&command);
     let reply = step(session, command, told);
-    report_reply(numbering.updates, &reply, errors)?;
+    report_reply(numbering.updates, line, &reply, errors)?;
     let heading = heading_after(heading, &reply);
     write_said(heading, told, view_of(session), output)
 }

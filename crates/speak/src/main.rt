@@ -7,12 +7,14 @@ mod numbering;
 
 use crate::adapter::Speak;
 use crate::manual::MANUAL;
-use atree_script::{NoArguments, read_arguments, run_program};
+use atree_script::{NoArguments, read_run, run_reporting};
 use std::process::ExitCode;
 
 fn main(rt: HostRuntime) -> ExitCode {
-    match read_arguments(&rt, &MANUAL) {
-        Ok((is_numbered, NoArguments)) => run_program(&rt, &Speak { is_numbered }),
+    match read_run(&rt, &MANUAL) {
+        Ok((is_strict, (is_numbered, NoArguments))) => {
+            run_reporting(&rt, is_strict, &Speak { is_numbered })
+        }
         Err(status) => ExitCode::from(status),
     }
 }

@@ -5,12 +5,13 @@ use atree_script::Manual;
 /// What the program says of itself.
 pub(crate) const MANUAL: Manual = Manual {
     name: "speak",
-    arguments: " [--numbered]",
+    arguments: " [--strict] [--numbered]",
     option: Some("--numbered"),
     help: "\
 Prints what a small screen reader would say at each step of a script: of the focus, of what changes in the focused
 node, and of live regions. The script is read from standard input. Refused updates are reported on standard error.
 
+  --strict    end at the first refused update, with status 1
   --numbered  put a line before what is said of each update: its number
 
 For example:

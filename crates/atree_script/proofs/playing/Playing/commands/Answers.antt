@@ -1,6 +1,6 @@
 use Rattle.std.proofs.Common.{ℕ, List, [], ◌∷◌, ◌++◌, Option, Result, Ok, Err, inl, inr, refl, sym, subst}
 use Rattle.std.proofs.lemmas.Fn.{FoldsTo-push}
-use Rattle.script_lines.specs.Taking.{comment_of}
+use Rattle.script_lines.specs.Taking.{comment_of, number_of}
 use Rattle.script_lines.specs.declared.reader.ScriptCommand.{ScriptCommand}
 use Rattle.script_words.specs.declared.stops.Stop.{Stop}
 use Rattle.atree_script.specs.Played.{stage_of}
@@ -18,7 +18,8 @@ loop-preserved g c =
     let reads = subst (λ (o : Option ScriptCommand). Answers left c.loop.script (Ok o) next after) c.in-Some.is c.in_ok-command.ensures.reads in (
       so_far.0 ++ commented next command ∷ [],
       FoldsTo-push (GoesOn g.P.Player.turns) (stage_of c.args.self.now, c.args.player.now) so_far.0 (stage_of c.loop.self, c.loop.player) (commented next command) (stage_of c.carry_out.new.self, c.carry_out.new.player) so_far.1
-          (subst (λ (text : List ℕ). CarriesOut g.P.Player.turns (stage_of c.loop.self) c.loop.player text command (Ok tt) (stage_of c.carry_out.new.self) c.carry_out.new.player) c.comment.ensures c.in_ok-carry_out.ensures),
+          (subst (λ (line : ℕ). CarriesOut g.P.Player.turns (stage_of c.loop.self) c.loop.player (comment_of next) line command (Ok tt) (stage_of c.carry_out.new.self) c.carry_out.new.player) c.line_number.ensures
+          (subst (λ (text : List ℕ). CarriesOut g.P.Player.turns (stage_of c.loop.self) c.loop.player text c.line_number.result command (Ok tt) (stage_of c.carry_out.new.self) c.carry_out.new.player) c.comment.ensures c.in_ok-carry_out.ensures)),
       one_more (g.R.Read.remaining c.args.input.now) c.args.script.now so_far.0 left c.loop.script so_far.2 command next after reads,
     )
 
@@ -44,8 +45,9 @@ returns-in_err-carry_out g c =
           stop = stop;
           stopped = stopped;
           carried =
-              subst (λ (r : Result Unit Stop). CarriesOut g.P.Player.turns (stage_of c.loop.self) c.loop.player (comment_of next) command r (stage_of c.carry_out.new.self) c.carry_out.new.player) (sym stopped)
-              (subst (λ (text : List ℕ). CarriesOut g.P.Player.turns (stage_of c.loop.self) c.loop.player text command (Err stop) (stage_of c.carry_out.new.self) c.carry_out.new.player) c.comment.ensures c.in_err-carry_out.ensures);
+              subst (λ (r : Result Unit Stop). CarriesOut g.P.Player.turns (stage_of c.loop.self) c.loop.player (comment_of next) (number_of next) command r (stage_of c.carry_out.new.self) c.carry_out.new.player) (sym stopped)
+              (subst (λ (line : ℕ). CarriesOut g.P.Player.turns (stage_of c.loop.self) c.loop.player (comment_of next) line command (Err stop) (stage_of c.carry_out.new.self) c.carry_out.new.player) c.line_number.ensures
+              (subst (λ (text : List ℕ). CarriesOut g.P.Player.turns (stage_of c.loop.self) c.loop.player text c.line_number.result command (Err stop) (stage_of c.carry_out.new.self) c.carry_out.new.player) c.comment.ensures c.in_err-carry_out.ensures));
         },
         read_these before c.args.script.now (so_far.0 ++ commented next command ∷ []) after next (one_more before c.args.script.now so_far.0 left c.loop.script so_far.2 command next after reads),
       ),

@@ -16,7 +16,7 @@ returns-in-Ok-clause-shows g c =
     let told = g.E.Write.contents old.errors.now in
     let told_after = g.E.Write.contents c.write_reported.new.errors in
     let s = shown_of old.updates old.states.items old.kept before told in
-    let report = report_text c.args.cause it.outcome in
+    let report = report_text c.args.line c.args.cause it.outcome in
     let written : WritesReported text report result before after told told_after =
     subst (λ errs. WritesReported text report result before after (g.E.Write.contents errs.now) told_after) c.draw_step.ensures.errors
     (subst (λ out. WritesReported text report result (g.O.Write.contents out.now) after (g.E.Write.contents new.errors.now) told_after) c.draw_step.ensures.output
