@@ -280,12 +280,13 @@ class Pages(Play):
 
     def __init__(self, without=None):
         super().__init__()
-        self.states, self.updates, self.without = [], 0, without
+        self.states, self.lines, self.updates, self.without = [], 0, 0, without
         self.reports, self.last = [], {}
         # The empty lines and comments since the last command.
         self.skipped = []
 
     def line(self, line):
+        self.lines += 1
         printed = super().line(line)
         text = line.decode().removesuffix("\r")
         if not self.open:
@@ -299,7 +300,7 @@ class Pages(Play):
         if refused is None and (told or not old.known):
             marks = {event[1]: event[0] for event in told if event[0] in ("added", "updated")}
             state["tree"], self.last = tree_shown(self.world, len(self.states) + 1, marks, self.last)
-        self.reports += [f"update {self.updates}: {' | '.join(sorted(refused))}\n"] if refused else []
+        self.reports += [f"line {self.lines}, update {self.updates}: {' | '.join(sorted(refused))}\n"] if refused else []
         self.states.append(state)
 
     def send(self):
@@ -343,8 +344,8 @@ def states_of(script, without=None):
 
 
 def reports_of(script, without=None):
-    """What is reported of the refused updates of a script, up to its bad line if it has one, each by its number among the updates and
-    with the words for each rule that it breaks: `update 3: WORDS | WORDS`."""
+    """What is reported of the refused updates of a script, up to its bad line if it has one, each by the line that ends it, by its number
+    among the updates, and with the words for each rule that it breaks: `line 9, update 3: WORDS | WORDS`."""
     return "".join(pages_of(script, without).reports).encode()
 
 

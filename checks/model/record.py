@@ -1,7 +1,9 @@
-"""The model's output of the program `record`: each command of a script again, with the fields of a line in a fixed order."""
+"""The model's output of the program `record`: each command of a script again, with the fields of a line in a fixed order; and with
+`--tree` the tree that they leave."""
 
 from model.fields import FIELDS, ROOT, BadLine, number, tree_name
 from model.scripts import QUESTIONS, UPDATE_FIELDS, Play, Words, field_word, read_node
+from model.worlds import graft_name, index_of, listed
 
 NAMED_ACTIONS = ["Click", "Focus", "Increment", "Decrement"]
 
@@ -26,17 +28,25 @@ def given(name, value):
     return tree_word(value) if name == "tree" else value
 
 
-def node_line(words):
-    """A node's line."""
-    id, node = read_node(words)
+def line_of_node(id, node):
+    """The words of a node's line."""
     fields = [(name, given(name, getattr(node, name))) for name in FIELDS]
     return ["node", str(id), node.role, *(word for name, value in fields for word in field_word(name, value))]
 
 
+def node_line(words):
+    """A node's line."""
+    return line_of_node(*read_node(words))
+
+
+def line_of_update(tree, fields):
+    """The words of the line that begins an update."""
+    return ["update", tree_word(tree), *(word for name in UPDATE_FIELDS for word in field_word(name, fields.get(name)))]
+
+
 def update_line(words):
     """The line that begins an update."""
-    tree, fields = tree_name(words.word()), words.fields(UPDATE_FIELDS)
-    return ["update", tree_word(tree), *(word for name in UPDATE_FIELDS for word in field_word(name, fields.get(name)))]
+    return line_of_update(tree_name(words.word()), words.fields(UPDATE_FIELDS))
 
 
 def question_line(word, words):
@@ -70,6 +80,61 @@ def record(script):
             written += open_lines
             open_lines = []
     return "".join(line + "\n" for line in written).encode()
+
+
+# ---- the tree that a script leaves
+
+
+def played(script):
+    """The world that a script leaves, and the toolkit that the root tree then has, as fields of an update."""
+    play, head, toolkit = Play(), None, {}
+    for line in script.split(b"\n"):
+        told = play.line(line)
+        if line.startswith(b"update "):
+            words = Words(line.decode().rstrip("\r")[len("update ") :])
+            head = tree_name(words.word()), words.fields(UPDATE_FIELDS)
+        if line.rstrip(b"\r") == b"end" and told[-1] == "ok" and head[0] == ROOT and "root" in head[1]:
+            toolkit = {name: head[1].get(name) for name in ("toolkit", "version")}
+    return play.world, toolkit
+
+
+def within(world, id):
+    """A node and those below it in its tree, each before those below it."""
+    return [id, *(below for child in listed(world, id) for below in within(world, child))]
+
+
+def snapshot(script):
+    """The script of the tree that a script leaves, or nothing if there is none: an update for each of its trees, after those that graft it.
+    A tree whose focus is on a graft gets it last, and if that graft is its root, it has another root before."""
+    world, toolkit = played(script)
+    lines, late = [["host", "on"]] * (world.is_host_focused and bool(world.known)), []
+    waiting = [0] if world.known else []
+    for index in waiting:
+        tree, name = world.trees[index], world.known[index]
+        nodes = within(world, (index, tree.root))
+        grafts = [id for id in nodes if graft_name(world, id)]
+        head = {"focus": tree.focus, "root": tree.root, **(toolkit if name == ROOT else {})}
+        nodes_lines = [line_of_node(id[1], world.nodes[id]) for id in nodes]
+        if (index, tree.focus) in grafts and nodes == grafts:
+            late.append([line_of_update(name, head), ["end"]])
+            root = 1 if tree.root == 0 else 0
+            nodes_lines.insert(0, ["node", str(root), "Unknown", f"children={tree.root}"])
+            head = {"focus": root, "root": root}
+        elif (index, tree.focus) in grafts:
+            late.append([line_of_update(name, {"focus": tree.focus}), ["end"]])
+            head["focus"] = tree.root
+        lines += [line_of_update(name, head), *nodes_lines, ["end"]]
+        inner = [index_of(world, graft_name(world, id)) for id in grafts]
+        waiting += [one for one in inner if one in world.trees]
+    lines += [line for update in reversed(late) for line in update]
+    return "".join(" ".join(line) + "\n" for line in lines).encode()
+
+
+def state_of(world):
+    """All that a world shows, by the names of its trees."""
+    names = world.known
+    trees = {names[index]: tree for index, tree in world.trees.items()}
+    return world.is_host_focused, trees, {(names[id[0]], id[1]): node for id, node in world.nodes.items()}
 
 
 if __name__ == "__main__":

@@ -28,19 +28,34 @@ def words_of(line):
 
 
 def reports(script):
-    """What is reported of the refused updates of a script, up to its bad line if it has one, each by its number among the updates. Where
-    an update breaks several rules, the line has the words for each of them: `update 3: WORDS | WORDS`."""
+    """What is reported of the refused updates of a script, up to its bad line if it has one, each by the line that ends it and its number
+    among the updates. Where one breaks several rules, the report has the words for each of them: `line 9, update 3: WORDS | WORDS`."""
     play, updates, lines = Play(), 0, []
     try:
-        for line in script.split(b"\n"):
+        for at, line in enumerate(script.split(b"\n"), 1):
             was_open = play.open
             told = play.line(line)
             if was_open and not play.open:
                 updates += 1
-                lines += [f"update {updates}: {' | '.join(words_of(one))}" for one in told if one.startswith("refused ")]
+                lines += [f"line {at}, update {updates}: {' | '.join(words_of(one))}" for one in told if one.startswith("refused ")]
     except BadLine:
         pass
     return "".join(line + "\n" for line in lines).encode()
+
+
+def parts_at_refusal(script):
+    """A script before its first refused update, and up to that update's end; None where none is refused before a bad line."""
+    play, lines, head = Play(), script.split(b"\n"), 0
+    try:
+        for at, line in enumerate(lines):
+            was_open = play.open
+            told = play.line(line)
+            head = at if play.open and not was_open else head
+            if was_open and not play.open and any(one.startswith("refused ") for one in told):
+                return [b"".join(line + b"\n" for line in lines[:end]) for end in (head, at + 1)]
+    except BadLine:
+        pass
+    return None
 
 
 def is_reported(told, errors):

@@ -361,12 +361,21 @@ class Play:
         return answer(self.world, id, *asked) if id else "no node"
 
 
-def world_of(script):
-    """The world that a script without a bad line leaves, which is bytes."""
+def worlds_of(script):
+    """The world after each update of a script without a bad line, which is bytes, and after all those the one that it leaves."""
     play = Play()
     for line in script.split(b"\n"):
+        was_open = play.open
         play.line(line)
-    return play.world
+        if was_open and not play.open:
+            yield play.world
+    yield play.world
+
+
+def world_of(script):
+    """The world that a script without a bad line leaves, which is bytes."""
+    *_, last = worlds_of(script)
+    return last
 
 
 def told_by(script, play=None, before=0):
