@@ -8,7 +8,7 @@ import re
 from typing import NamedTuple
 
 from model.fields import ROOT as ROOT_TREE
-from model.programs import find
+from model.programs import Search, find_in
 from model.scripts import Play, told_by, world_of
 from model.texts import flat_text, is_text, label_of, value_of
 from model.views import bounding_box
@@ -214,7 +214,8 @@ def faults_of_seen(name, script):
     """Which of these controls the model's `find` doesn't find."""
     world = world_of(script)
     for control in seen_controls(name):
-        fault = control.fault("\n".join(find(world, control.words())[0]))
+        lines, hints, _ = find_in(world, Search(control.words()))
+        fault = control.fault("\n".join(lines + hints))
         if fault:
             yield f"{' '.join(control.words())}: {fault}"
 
