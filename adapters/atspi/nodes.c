@@ -54,7 +54,7 @@ bool has_flag(const view *v, ak_id id, ak_flag flag) {
     return GIVEN(bool, false, node_flag, v, ID(id), flag);
 }
 
-/* A state by its number, or what is said where the node has none. */
+/* A state by its number, or what is said where the node has no such state. */
 uint32_t state_value(const view *v, ak_id id, ak_state state, uint32_t otherwise) {
     return GIVEN(uint32_t, otherwise, node_state, v, ID(id), state);
 }
